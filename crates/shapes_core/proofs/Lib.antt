@@ -1,0 +1,3 @@
+pub mod SpanLemmas
+pub mod PaddedLemmas
+pub mod NameLemmas

@@ -1,0 +1,15 @@
+// Names, shapes and areas: what every other crate of the compiler speaks of.
+//
+// A name and a shape are small values that are copied. Contracts see a name as the list of its bytes
+// and a shape as the list of its extents. No call of this crate takes memory.
+#![tactic(auto)]
+
+mod area;
+mod name;
+mod shape;
+#[cfg(test)]
+mod tests;
+
+pub use area::{Area, AreaKind, Declared, NoMemory};
+pub use name::Name;
+pub use shape::{Shape, total};

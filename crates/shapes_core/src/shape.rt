@@ -1,0 +1,92 @@
+// Shapes of arrays.
+ghost use Rattle.std.specs.Prelude.{◌≡◌, ◌↔◌, IsSome, IfSome, ◌≤◌};
+ghost use Rattle.shapes_core.specs.Shape.{IsShape, are_small, total};
+
+use std::marker::Model;
+
+/// The greatest number of axes.
+const MOST_AXES: usize = 6;
+
+/// The greatest extent, and the greatest span: the product of the extents with each 0 taken as 1.
+const GREATEST: u64 = 16777216;
+
+/// The shape of an array: at most 6 extents, of which each, and their span, is at most 16777216.
+/// A scalar has no extent.
+#[derive(Clone, Copy)]
+pub struct Shape {
+    extents: [u64; 6],
+    axes: usize,
+}
+
+impl Model for Shape {
+    ghost use Rattle.std.specs.Prelude.{◌≡◌, ◌≤◌, ◌-◌, ◌++◌, ℕ, List, length, take, drop, replicate};
+    ghost use Rattle.std.proofs.Common.{ap};
+    ghost use Rattle.shapes_core.specs.Shape.{IsShape};
+    ghost use Rattle.shapes_core.specs.Padded.{IsPadded, padded, padded-view};
+
+    ghost Value = { List ℕ };
+
+    ghost view = { λ s. take s.axes s.extents };
+
+    ghost invariant = { λ s. IsPadded 6 s.extents s.axes × IsShape (take s.axes s.extents) };
+
+    ghost inverse = { λ list. record { extents = padded 6 list; axes = length list } };
+
+    ghost inverse_ok = { λ n h. ap (λ (p : List ℕ × ℕ). record { extents = p.0; axes = p.1 }) (padded-view h.0) };
+}
+
+impl Shape {
+    /// The shape with these extents, or `None` where they are too many or too large.
+    pub fn new(extents: &[u64]) -> Option<Shape>
+        ensures within { IsSome result ↔ IsShape extents.now }
+        ensures same { IfSome result (λ shape. shape ≡ extents.now) }
+    {
+        if extents.len() > MOST_AXES || !are_small(extents) {
+            return None;
+        }
+        let mut padded = [0; MOST_AXES];
+        padded[..extents.len()].copy_from_slice(extents);
+        Some(Shape {
+            extents: padded,
+            axes: extents.len(),
+        })
+    }
+
+    /// The extents, one an axis.
+    pub fn extents(&self) -> &[u64]
+        ensures value { result.now ≡ self.now }
+        ensures shape { IsShape self.now }
+    {
+        &self.extents[..self.axes]
+    }
+}
+
+/// Whether each extent, and the span, is within `GREATEST`.
+fn are_small(extents: &[u64]) -> bool
+    ensures { result ≡ are_small extents.now }
+{
+    let mut span = 1;
+    for extent in extents {
+        if *extent > GREATEST {
+            return false;
+        }
+        let factor = (*extent).max(1);
+        if factor * span > GREATEST {
+            return false;
+        }
+        span *= factor;
+    }
+    true
+}
+
+/// How many elements an array of the shape has: 1 for a scalar.
+pub fn total(shape: &Shape) -> u64
+    ensures value { result ≡ total shape.now }
+    ensures small { result ≤ 16777216 }
+{
+    let mut total = 1;
+    for extent in shape.extents() {
+        total *= extent;
+    }
+    total
+}
