@@ -1,3 +1,2 @@
 pub mod SpanLemmas
 pub mod PaddedLemmas
-pub mod NameLemmas

@@ -1,6 +1,5 @@
 use Rattle.std.proofs.Common.{subst, sym, arith}
-use Rattle.shapes_core.specs.Name.{IsName}
-use Rattle.shapes_core.proofs.NameLemmas.{name_within}
+use Rattle.shapes_core.specs.Name.{IsName, length-IsName}
 use Rattle.shapes_core.proofs.PaddedLemmas.{filled, filled_front}
 use Rattle.shapes_core.proofs.name.Name.new.Goals as goal
 
@@ -9,6 +8,6 @@ invariant_of-result c =
     let bytes = c.args.bytes.now in
     let copied = c.copy_from_slice.new.self in
     let name : IsName bytes = grind arith in (
-      filled 64 bytes copied c.copy_from_slice.ensures.after (name_within bytes name),
+      filled 64 bytes copied c.copy_from_slice.ensures.after (length-IsName bytes name),
       subst (λ list. IsName list) (sym (filled_front bytes copied _ c.copy_from_slice.ensures.after)) name,
     )

@@ -1,0 +1,21 @@
+use Rattle.std.proofs.Common.{◌≡◌, ◌-◌, ◌≤◌, vec_len}
+use Rattle.psi_edges.specs.Causes.{raised}
+use Rattle.psi_edges.proofs.FrontLemmas.{IsFront}
+use Rattle.psi_edges.proofs.whole.read_whole.Given as goal
+
+-- the bytes so far are the front of the file, and were counted
+abbrev pub invariant-loop-shelf : goal.invariant-loop-shelf
+invariant-loop-shelf g l =
+    let shelf = g.F.Shelf in
+    record {
+      within : vec_len l.bytes ≤ l.most;
+      front : IsFront (shelf.files l.fn.shelf) l.name l.bytes.items;
+      given : raised (shelf.given l.fn.shelf) (vec_len l.bytes) ≤ shelf.given l.shelf;
+      more_given : shelf.given l.fn.shelf ≤ shelf.given l.shelf;
+      later : shelf.faults l.fn.shelf ≤ shelf.faults l.shelf;
+      failed_name : shelf.failed_name l.shelf ≡ shelf.failed_name l.fn.shelf;
+      unchanged : shelf.files l.shelf ≡ shelf.files l.fn.shelf;
+    }
+
+abbrev pub decreases-loop-shelf : goal.decreases-loop-shelf
+decreases-loop-shelf g l = l.most - vec_len l.bytes

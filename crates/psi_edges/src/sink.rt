@@ -1,0 +1,24 @@
+// A sink: bytes that are put at an end.
+ghost use Rattle.std.specs.Prelude.{◌≡◌, ℕ, ◌<◌, ◌≤◌, ◌++◌, List, Option, length, take, IfOk, MatchResult};
+ghost use Rattle.psi_edges.specs.Causes.{HasCause};
+ghost use Rattle.psi_edges.specs.Held.{Appends};
+
+use crate::shelf::Failed;
+
+/// Where bytes are put, one piece after another.
+pub trait Sink {
+    /// The bytes that it holds, where the sink tells them.
+    ghost held: { Self → Option (List ℕ) };
+
+    /// How many calls failed. The count never falls, and stays at 2^64 - 1 once that is reached.
+    ghost faults: { Self → ℕ };
+
+    /// Appends the front of `bytes`, at least one byte, and answers how many. A failed call appends nothing.
+    fn put(&mut self, bytes: &[u8]) -> Result<usize, Failed>
+        requires { 0 < length bytes.now }
+        ensures within { IfOk result (λ count. (1 ≤ count) × (count ≤ length bytes.now)) }
+        ensures held { MatchResult result
+            (λ count. Appends (held self.old) (held self.new) (take count bytes.now))
+            (λ _. held self.new ≡ held self.old) }
+        ensures cause { HasCause (faults self.old) (faults self.new) result };
+}

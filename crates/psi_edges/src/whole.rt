@@ -1,0 +1,113 @@
+// Whole files in and whole texts out, over any shelf and any sink.
+ghost use Rattle.std.specs.Prelude.{◌≡◌, ◌≢◌, ℕ, ◌+◌, ◌^◌, ◌<◌, ◌≤◌, ◌++◌, List, length, take, IfOk, OnOk, OnErr, IsErrOf, vec_len};
+ghost use Rattle.psi_edges.specs.Causes.{HasCause, Rose, raised};
+ghost use Rattle.psi_edges.specs.Files.{OnFile, IsNext};
+ghost use Rattle.psi_edges.specs.Held.{Appends, AppendsFront};
+
+use crate::shelf::{Failed, Shelf};
+use crate::sink::Sink;
+use std::alloc::Global;
+
+/// The greatest number of bytes that one call of a shelf is asked for.
+const PIECE: usize = 4096;
+
+/// Why a whole file could not be had: a call of the shelf failed, the file is longer than the limit, or
+/// memory was wanted.
+#[derive(Clone, Copy, Debug, PartialEq, Eq)]
+pub enum Fetch {
+    Fault,
+    TooLong,
+    Memory,
+}
+
+/// A call of the sink failed. The sink holds a part of what was to be written.
+#[derive(Clone, Copy, Debug, PartialEq, Eq)]
+pub struct WriteFault;
+
+/// The whole file `name`, of at most `limit` bytes. It takes until the file ends or one byte more than the limit
+/// was given, and the memory grows with what was given.
+pub fn read_whole<F: Shelf>(
+    alloc: Global,
+    shelf: &mut F,
+    name: &str,
+    limit: u64,
+) -> Result<Vec<u8>, Fetch>
+    requires short_name { length name.now ≤ 4096 }
+    requires small_limit { limit < 2 ^ 32 }
+    ensures short { IfOk result (λ bytes. vec_len bytes ≤ limit) }
+    // Where the shelf tells its files, the whole file comes, and `TooLong` exactly for a longer one.
+    ensures whole { IfOk result (λ bytes. OnFile (F.files shelf.old) name.now (λ file. bytes.items ≡ file)) }
+    ensures too_long { IsErrOf result Fetch.TooLong →
+        OnFile (F.files shelf.old) name.now (λ file. limit < length file) }
+    // When the other errors come.
+    ensures fault { IsErrOf result Fetch.Fault →
+        Rose (F.faults shelf.old) (F.faults shelf.new) × (F.failed_name shelf.new ≡ name.now) }
+    ensures counted { IsErrOf result Fetch.TooLong → raised (F.given shelf.old) (limit + 1) ≤ F.given shelf.new }
+    // What stays.
+    ensures failed_name { result ≢ Err Fetch.Fault → F.failed_name shelf.new ≡ F.failed_name shelf.old }
+    ensures later { F.faults shelf.old ≤ F.faults shelf.new }
+    ensures more_given { F.given shelf.old ≤ F.given shelf.new }
+    ensures unchanged { F.files shelf.new ≡ F.files shelf.old }
+{
+    let most = limit + 1;
+    let mut bytes = Vec::new(alloc);
+    while (bytes.len() as u64) < most {
+        let count = take_piece(shelf, name, &mut bytes, most)?;
+        if count == 0 {
+            return Ok(bytes);
+        }
+    }
+    Err(Fetch::TooLong)
+}
+
+/// Takes the piece of the file `name` that follows `bytes`, of at most `PIECE` bytes, and appends it. It answers
+/// how many bytes that were, and leaves `bytes` no longer than `most`.
+fn take_piece<F: Shelf>(
+    shelf: &mut F,
+    name: &str,
+    bytes: &mut Vec<u8>,
+    most: u64,
+) -> Result<usize, Fetch>
+    requires short_name { length name.now ≤ 4096 }
+    requires room { vec_len bytes.old < most }
+    requires small { most ≤ 2 ^ 32 }
+    ensures next { IfOk result (λ count. OnFile (F.files shelf.old) name.now
+        (λ file. IsNext file bytes.old.items count bytes.new.items)) }
+    ensures within { OnOk result (vec_len bytes.new ≤ most) }
+    ensures grown { IfOk result (λ count. vec_len bytes.new ≡ vec_len bytes.old + count) }
+    ensures given { IfOk result (λ count. F.given shelf.new ≡ raised (F.given shelf.old) count) }
+    ensures fits { result ≢ Err Fetch.TooLong }
+    ensures fault { IsErrOf result Fetch.Fault →
+        Rose (F.faults shelf.old) (F.faults shelf.new) × (F.failed_name shelf.new ≡ name.now) }
+    ensures failed_name { result ≢ Err Fetch.Fault → F.failed_name shelf.new ≡ F.failed_name shelf.old }
+    ensures later { F.faults shelf.old ≤ F.faults shelf.new }
+    ensures more_given { F.given shelf.old ≤ F.given shelf.new }
+    ensures unchanged { F.files shelf.new ≡ F.files shelf.old }
+{
+    let mut piece = [0u8; PIECE];
+    let at = bytes.len() as u64;
+    let want = (most - at).min(PIECE as u64) as usize;
+    match shelf.take(name, at, &mut piece[..want]) {
+        Err(Failed) => Err(Fetch::Fault),
+        Ok(count) => match bytes.extend_from_slice(&piece[..count]) {
+            Err(_) => Err(Fetch::Memory),
+            Ok(()) => Ok(count),
+        },
+    }
+}
+
+/// Appends all of `bytes` to the sink. It hands each `put` all that is left, and takes no memory.
+pub fn write_whole<K: Sink>(sink: &mut K, bytes: &[u8]) -> Result<(), WriteFault>
+    ensures whole { OnOk result (Appends (K.held sink.old) (K.held sink.new) bytes.now) }
+    ensures part { OnErr result (AppendsFront (K.held sink.old) (K.held sink.new) bytes.now) }
+    ensures cause { HasCause (K.faults sink.old) (K.faults sink.new) result }
+{
+    let mut done = 0;
+    while done < bytes.len() {
+        match sink.put(&bytes[done..]) {
+            Err(Failed) => return Err(WriteFault),
+            Ok(count) => done += count,
+        }
+    }
+    Ok(())
+}

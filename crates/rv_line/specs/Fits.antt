@@ -1,0 +1,167 @@
+use Rattle.std.specs.Prelude.{ℕ, ◌+◌, ◌*◌, ◌^◌, ◌≤◌, ◌<◌, ◌≡◌, ◌≢◌, ℤ, pos, negsuc, ◌≤ℤ◌, List, [], ◌∷◌, length, map, AllPairs}
+use Rattle.shapes_core.specs.Shape.{total}
+use Rattle.shapes_core.specs.declared.area.Area.{Area}
+use Rattle.shapes_core.specs.declared.area.AreaKind.{AreaKind}
+use Rattle.shapes_core.specs.declared.area.AreaKind.TheVariants.{In, Out, Scan}
+use Rattle.rv_line.specs.Parts.{Parts}
+use Rattle.rv_line.specs.declared.assembly.Header.{Header}
+use Rattle.rv_line.specs.declared.line.Imm.{Imm}
+use Rattle.rv_line.specs.declared.line.Imm.TheVariants.{Addi, Slti, Sltiu, Xori, Ori, Andi, Slli, Srli, Srai, Addiw, Slliw, Srliw, Sraiw}
+use Rattle.rv_line.specs.declared.line.Line.{Line}
+use Rattle.rv_line.specs.declared.line.Line.TheVariants.{Three as ThreeLine, Imm as ImmLine, Load as LoadLine, Store as StoreLine, Branch as BranchLine, Lui, Auipc, Jal, Jalr, Fence, Ecall, Ebreak}
+
+-- a signed immediate of 12 bits
+pub record IsSmall (imm : ℤ) : Type 0 where
+  pub low : negsuc 2047 ≤ℤ imm
+  pub high : imm ≤ℤ pos 2047
+
+-- the amount of a shift, at most `most`
+pub record IsShift (most imm : ℤ) : Type 0 where
+  pub low : pos 0 ≤ℤ imm
+  pub high : imm ≤ℤ most
+
+-- the upper 20 bits of a word of 32
+abbrev pub IsUpper : ℕ → Type 0
+IsUpper imm = imm ≤ 1048575
+
+-- what the mnemonic takes as its immediate
+abbrev pub IsImm : Imm → ℤ → Type 0
+IsImm Addi imm = IsSmall imm
+IsImm Slti imm = IsSmall imm
+IsImm Sltiu imm = IsSmall imm
+IsImm Xori imm = IsSmall imm
+IsImm Ori imm = IsSmall imm
+IsImm Andi imm = IsSmall imm
+IsImm Slli imm = IsShift (pos 63) imm
+IsImm Srli imm = IsShift (pos 63) imm
+IsImm Srai imm = IsShift (pos 63) imm
+IsImm Addiw imm = IsSmall imm
+IsImm Slliw imm = IsShift (pos 31) imm
+IsImm Srliw imm = IsShift (pos 31) imm
+IsImm Sraiw imm = IsShift (pos 31) imm
+
+-- in a program of `count` lines of 4 bytes, what line `at` may have as its target: a line or the end, and at most `low` bytes
+-- before the line, or `high` bytes behind it
+pub record IsInReach (low high count at target : ℕ) : Type 0 where
+  pub exists : target ≤ count
+  pub back : 4 * at ≤ 4 * target + low
+  pub ahead : 4 * target ≤ 4 * at + high
+
+-- the reach of a branch, whose offset has 13 bits
+abbrev pub IsBranchTarget : ℕ → ℕ → ℕ → Type 0
+IsBranchTarget count at target = IsInReach 4096 4094 count at target
+
+-- the reach of `jal`, whose offset has 21 bits
+abbrev pub IsJumpTarget : ℕ → ℕ → ℕ → Type 0
+IsJumpTarget count at target = IsInReach 1048576 1048574 count at target
+
+-- registers are x0 to x31
+abbrev pub IsRegister : ℕ → Type 0
+IsRegister register = register < 32
+
+-- three registers
+pub record FitsThree (rd rs1 rs2 : ℕ) : Type 0 where
+  pub to : IsRegister rd
+  pub left : IsRegister rs1
+  pub right : IsRegister rs2
+
+-- two registers and an immediate of the mnemonic
+pub record FitsImm (code : Imm) (rd rs1 : ℕ) (amount : ℤ) : Type 0 where
+  pub to : IsRegister rd
+  pub from : IsRegister rs1
+  pub imm : IsImm code amount
+
+-- a register, and an address as an offset from another
+pub record FitsAddress (register rs1 : ℕ) (offset : ℤ) : Type 0 where
+  pub operand : IsRegister register
+  pub base : IsRegister rs1
+  pub imm : IsSmall offset
+
+-- a register and the upper bits of a word
+pub record FitsUpper (rd upper : ℕ) : Type 0 where
+  pub to : IsRegister rd
+  pub imm : IsUpper upper
+
+-- two registers and a target
+pub record FitsBranch (count at rs1 rs2 label : ℕ) : Type 0 where
+  pub left : IsRegister rs1
+  pub right : IsRegister rs2
+  pub target : IsBranchTarget count at label
+
+-- a register and a target
+pub record FitsJump (count at rd label : ℕ) : Type 0 where
+  pub to : IsRegister rd
+  pub target : IsJumpTarget count at label
+
+-- the line of number `at`, of `count`, is an instruction of RV64IM, with its fields in the ranges of its form
+abbrev pub FitsLine : ℕ → ℕ → Line → Type 0
+FitsLine count at (ThreeLine code to left right) = FitsThree to left right
+FitsLine count at (ImmLine code to from imm) = FitsImm code to from imm
+FitsLine count at (LoadLine code to imm base) = FitsAddress to base imm
+FitsLine count at (StoreLine code from imm base) = FitsAddress from base imm
+FitsLine count at (BranchLine code left right target) = FitsBranch count at left right target
+FitsLine count at (Lui to imm) = FitsUpper to imm
+FitsLine count at (Auipc to imm) = FitsUpper to imm
+FitsLine count at (Jal to target) = FitsJump count at to target
+FitsLine count at (Jalr to imm base) = FitsAddress to base imm
+FitsLine count at Fence = Unit {0}
+FitsLine count at Ecall = Unit {0}
+FitsLine count at Ebreak = Unit {0}
+
+-- lines that stand from number `at` on in a program of `count` lines
+abbrev pub FitLines : ℕ → ℕ → List Line → Type 0
+FitLines count at [] = Unit {0}
+FitLines count at (line ∷ lines) = FitsLine count at line × FitLines count (at + 1) lines
+
+-- scans, numbered from here on
+abbrev pub AreScans : ℕ → List AreaKind → Type 0
+AreScans number [] = Unit {0}
+AreScans number (In name ∷ kinds) = ⊥
+AreScans number (Out name ∷ kinds) = ⊥
+AreScans number (Scan found ∷ kinds) = (found ≡ number) × AreScans (number + 1) kinds
+
+-- outputs, and then scans from 0 on
+abbrev pub AreOuts : List AreaKind → Type 0
+AreOuts [] = Unit {0}
+AreOuts (In name ∷ kinds) = ⊥
+AreOuts (Out name ∷ kinds) = AreOuts kinds
+AreOuts (Scan number ∷ kinds) = AreScans 0 (Scan number ∷ kinds)
+
+-- inputs, then outputs, then scans from 0 on
+abbrev pub AreInOrder : List AreaKind → Type 0
+AreInOrder [] = Unit {0}
+AreInOrder (In name ∷ kinds) = AreInOrder kinds
+AreInOrder (Out name ∷ kinds) = AreOuts (Out name ∷ kinds)
+AreInOrder (Scan number ∷ kinds) = AreScans 0 (Scan number ∷ kinds)
+
+-- the names of inputs and outputs
+abbrev pub names : List AreaKind → List (List ℕ)
+names [] = []
+names (In name ∷ kinds) = name ∷ names kinds
+names (Out name ∷ kinds) = name ∷ names kinds
+names (Scan number ∷ kinds) = names kinds
+
+-- the first area starts here, and each next one where the one before ends
+abbrev pub StartFrom : ℕ → List Area → Type 0
+StartFrom start [] = Unit {0}
+StartFrom start (area ∷ areas) = (area.start ≡ start) × StartFrom (start + total area.shape) areas
+
+-- the areas of a block, one behind the other
+pub record AreAreas (areas : List Area) : Type 0 where
+  pub in_order : AreInOrder (map (λ area. area.kind) areas)
+  pub differ : AllPairs (λ one other. one ≢ other) (names (map (λ area. area.kind) areas))
+  pub packed : StartFrom 0 areas
+
+-- what has a spelling, within the limits of the format
+pub record Fits (header : Header) (areas : List Area) (lines : List Line) : Type 0 where
+  pub steps : header.steps < 2 ^ 63
+  pub spill : header.spill ≤ 134217728
+  pub area_count : length areas ≤ 2 ^ 30
+  pub in_block : AreAreas areas
+  pub line_count : length lines ≤ 2 ^ 30
+  pub in_form : FitLines (length lines) 0 lines
+
+-- an assembly: parts that fit, with a place for each line
+pub record IsAssembly (parts : Parts) : Type 0 where
+  pub fits : Fits parts.header parts.areas parts.lines
+  pub placed : length parts.places ≡ length parts.lines

@@ -1,0 +1,10 @@
+pub mod Effects
+pub mod Emitted
+pub mod Examples
+pub mod Fits
+pub mod Good
+pub mod Labels
+pub mod Machine
+pub mod Mnemonics
+pub mod Parts
+pub mod Stops

@@ -1,0 +1,3 @@
+pub mod Kernel
+pub mod Source
+pub mod Words

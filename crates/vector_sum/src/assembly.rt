@@ -1,0 +1,106 @@
+// The program of the sum of two vectors: pointers that walk the three areas, in one flat loop.
+ghost use Rattle.std.specs.Prelude.{◌≡◌, ◌*◌, ◌+◌, ◌^◌, ◌<◌, ◌≤◌, ◌++◌, IfOk, IsTrue, OnOk};
+ghost use Rattle.vector_sum.specs.Source.{is_sound};
+ghost use Rattle.vector_sum.specs.Kernel.{areas_of, constant_lines, header_of, lines_of, walk_lines};
+
+use crate::source::VectorSum;
+use rv_line::{Assembly, Branch, Header, Imm, Line, Load, Store, Three};
+use shapes_core::{Area, AreaKind, NoMemory, Shape};
+use std::alloc::Global;
+
+// The registers of the calling convention, and those that the program writes.
+const ZERO: u8 = 0;
+const RETURN: u8 = 1;
+const BLOCK: u8 = 10;
+const LEFT: u8 = 5;
+const RIGHT: u8 = 6;
+const SUM: u8 = 7;
+const END: u8 = 11;
+const VALUE: u8 = 12;
+const OTHER: u8 = 13;
+
+/// The bytes of an element.
+const WORD: i32 = 8;
+
+
+
+/// Lines after which the register holds the number, which is below 2^31: one where it is a signed immediate,
+/// and else two.
+fn push_constant(lines: &mut Vec<Line>, to: u8, value: u32) -> Result<(), NoMemory>
+    requires { value < 2 ^ 31 }
+    ensures { OnOk result (lines.new.items ≡ lines.old.items ++ constant_lines to value) }
+{
+    if value < 2048 {
+        lines.push(Line::Imm { code: Imm::Addi, to, from: ZERO, imm: value as i32 })?;
+        return Ok(());
+    }
+    let upper = (value + 2048) / 4096;
+    let lower = (value as i64 - 4096 * upper as i64) as i32;
+    lines.push(Line::Lui { to, imm: upper })?;
+    lines.push(Line::Imm { code: Imm::Addi, to, from: to, imm: lower })?;
+    Ok(())
+}
+
+/// The lines from the pointers' start to the return. `top` is the number of the first line of the loop.
+fn push_walk(lines: &mut Vec<Line>, top: u32) -> Result<(), NoMemory>
+    ensures { OnOk result (lines.new.items ≡ lines.old.items ++ walk_lines top) }
+{
+    let walk = [
+        Line::Imm { code: Imm::Addi, to: LEFT, from: BLOCK, imm: 0 },
+        Line::Three { code: Three::Add, to: RIGHT, left: LEFT, right: END },
+        Line::Three { code: Three::Add, to: SUM, left: RIGHT, right: END },
+        Line::Imm { code: Imm::Addi, to: END, from: RIGHT, imm: 0 },
+        Line::Load { code: Load::Ld, to: VALUE, imm: 0, base: LEFT },
+        Line::Load { code: Load::Ld, to: OTHER, imm: 0, base: RIGHT },
+        Line::Three { code: Three::Add, to: VALUE, left: VALUE, right: OTHER },
+        Line::Store { code: Store::Sd, from: VALUE, imm: 0, base: SUM },
+        Line::Imm { code: Imm::Addi, to: LEFT, from: LEFT, imm: WORD },
+        Line::Imm { code: Imm::Addi, to: RIGHT, from: RIGHT, imm: WORD },
+        Line::Imm { code: Imm::Addi, to: SUM, from: SUM, imm: WORD },
+        Line::Branch { code: Branch::Bne, left: LEFT, right: END, target: top },
+        Line::Jalr { to: ZERO, imm: 0, base: RETURN },
+    ];
+    lines.extend_from_slice(&walk)?;
+    Ok(())
+}
+
+fn lines_of(alloc: Global, extent: u64) -> Result<Vec<Line>, NoMemory>
+    requires { extent ≤ 16777216 }
+    ensures { IfOk result (λ lines. lines.items ≡ lines_of extent) }
+{
+    let mut lines = Vec::new(alloc);
+    push_constant(&mut lines, END, 8 * extent as u32)?;
+    let top = lines.len() as u32 + 4;
+    push_walk(&mut lines, top)?;
+    Ok(lines)
+}
+
+fn areas_of(alloc: Global, v: &VectorSum) -> Result<Vec<Area>, NoMemory>
+    requires { v.now.extent ≤ 16777216 }
+    ensures { IfOk result (λ areas. areas.items ≡ areas_of v.now) }
+{
+    let shape = Shape::new(&[v.extent]).unwrap();
+    let areas = vec![
+        in alloc;
+        Area { kind: AreaKind::In(v.left), shape, start: 0 },
+        Area { kind: AreaKind::In(v.right), shape, start: v.extent },
+        Area { kind: AreaKind::Out(v.sum), shape, start: 2 * v.extent },
+    ]?;
+    Ok(areas)
+}
+
+/// The program. Its header's steps are those that every run makes.
+pub fn kernel(alloc: Global, v: &VectorSum) -> Result<Assembly, NoMemory>
+    requires { IsTrue (is_sound v.now) }
+    ensures header { IfOk result (λ program. program.header ≡ header_of v.now.extent) }
+    ensures areas { IfOk result (λ program. program.areas ≡ areas_of v.now) }
+    ensures lines { IfOk result (λ program. program.lines ≡ lines_of v.now.extent) }
+{
+    let areas = areas_of(alloc, v)?;
+    let lines = lines_of(alloc, v.extent)?;
+    let header = Header {
+        steps: 8 * v.extent + lines.len() as u64 - 8,
+        spill: 0,
+    };
+    Assembly::new(alloc, header, areas, lines)
+}
