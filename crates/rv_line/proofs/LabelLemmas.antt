@@ -10,23 +10,14 @@ use Rattle.rv_line.specs.Emitted.{target_of, has_target, is_labelled, places_fro
 use Rattle.rv_line.specs.Fits.{FitLines}
 use Rattle.rv_line.specs.Labels.{TargetsWithin}
 use Rattle.rv_line.specs.declared.line.Line.{Line}
-use Rattle.rv_line.specs.declared.line.Line.TheVariants.{Three as ThreeLine, Imm as ImmLine, Load as LoadLine, Store as StoreLine, Branch as BranchLine, Lui, Auipc, Jal, Jalr, Fence, Ecall, Ebreak}
+use Rattle.rv_line.specs.declared.line.Line.TheVariants.{Branch as BranchLine, Jal}
 
 -- the targets of lines that fit are lines or the end
 pub targets_within : (count at : ℕ) (lines : List Line) → FitLines count at lines → TargetsWithin count lines
 targets_within count at [] fit = tt
-targets_within count at (ThreeLine code to left right ∷ lines) fit = (tt, targets_within count (at + 1) lines fit.1)
-targets_within count at (ImmLine code to from imm ∷ lines) fit = (tt, targets_within count (at + 1) lines fit.1)
-targets_within count at (LoadLine code to imm base ∷ lines) fit = (tt, targets_within count (at + 1) lines fit.1)
-targets_within count at (StoreLine code from imm base ∷ lines) fit = (tt, targets_within count (at + 1) lines fit.1)
 targets_within count at (BranchLine code left right target ∷ lines) fit = (fit.0.target.exists, targets_within count (at + 1) lines fit.1)
-targets_within count at (Lui to imm ∷ lines) fit = (tt, targets_within count (at + 1) lines fit.1)
-targets_within count at (Auipc to imm ∷ lines) fit = (tt, targets_within count (at + 1) lines fit.1)
 targets_within count at (Jal to target ∷ lines) fit = (fit.0.target.exists, targets_within count (at + 1) lines fit.1)
-targets_within count at (Jalr to imm base ∷ lines) fit = (tt, targets_within count (at + 1) lines fit.1)
-targets_within count at (Fence ∷ lines) fit = (tt, targets_within count (at + 1) lines fit.1)
-targets_within count at (Ecall ∷ lines) fit = (tt, targets_within count (at + 1) lines fit.1)
-targets_within count at (Ebreak ∷ lines) fit = (tt, targets_within count (at + 1) lines fit.1)
+targets_within count at (other ∷ lines) fit = (tt, targets_within count (at + 1) lines fit.1)
 
 -- one of those targets
 target_within : (count : ℕ) (lines : List Line) (i : ℕ) (d : Line) → TargetsWithin count lines → i < length lines → IfSome (target_of (get_or lines i d)) (λ target. target ≤ count)

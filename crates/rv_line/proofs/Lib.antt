@@ -1,6 +1,17 @@
+pub mod BodyLemmas
+pub mod ExampleLemmas
+pub mod FitLemmas
+pub mod FormLemmas
+pub mod InstructionLemmas
 pub mod Kept
 pub mod LabelLemmas
+pub mod LinesLemmas
 pub mod Memory
+pub mod NearMissLemmas
+pub mod NumberLemmas
+pub mod RefusalLemmas
+pub mod RowLemmas
 pub mod Runs
+pub mod SpellLemmas
 pub mod Steps
 pub mod Words

@@ -1,10 +1,15 @@
 pub mod Effects
 pub mod Emitted
-pub mod Examples
 pub mod Fits
 pub mod Good
+pub mod Instructions
 pub mod Labels
 pub mod Machine
+pub mod MachineExamples
 pub mod Mnemonics
+pub mod Numbers
 pub mod Parts
+pub mod Rows
+pub mod SpellingExamples
+pub mod Spells
 pub mod Stops

@@ -2,6 +2,10 @@
 ghost use Rattle.std.specs.Prelude.{◌≡◌, ◌+◌, ◌≤◌, ◌<◌, ◌++◌, ◌^◌, IfOk, OnOk, length};
 ghost use Rattle.rv_line.specs.Emitted.{emitted, header_text, areas_text, area_text, kind_text, extents_text, lines_text, is_labelled};
 ghost use Rattle.rv_line.specs.Labels.{AreLabels};
+ghost use Rattle.rv_line.specs.Rows.{IsKind, HasRow};
+ghost use Rattle.rv_line.specs.Spells.{Spells};
+ghost use Rattle.shapes_core.specs.Shape.{IsShape};
+ghost use Rattle.std.specs.List.{AllByRecursion};
 ghost use Rattle.rv_line.specs.Fits.{StartFrom};
 
 use crate::assembly::{Assembly, Header};
@@ -15,6 +19,7 @@ use std::alloc::Global;
 /// instruction and each label. The lines stand where `text_line` says if the program comes from `Assembly::new`.
 pub fn text(alloc: Global, program: &Assembly) -> Result<Vec<u8>, NoMemory>
     ensures exact { IfOk result (λ bytes. bytes.items ≡ emitted program.now.header program.now.areas program.now.lines) }
+    ensures spells { IfOk result (λ bytes. Spells bytes.items program.now) }
 {
     let lines = program.lines();
     let labelled = labels(alloc, lines)?;
@@ -41,7 +46,8 @@ fn push_areas(out: &mut Vec<u8>, spill: u64, areas: &[Area]) -> Result<(), NoMem
     requires packed { StartFrom 0 areas.now }
     requires count { length areas.now ≤ 2 ^ 30 }
     requires spill { spill ≤ 134217728 }
-    ensures { OnOk result (out.new.items ≡ out.old.items ++ areas_text spill areas.now) }
+    ensures text { OnOk result (out.new.items ≡ out.old.items ++ areas_text spill areas.now) }
+    ensures rows { OnOk result (AllByRecursion (HasRow spill) areas.now) }
 {
     let mut offset = spill;
     for area in areas {
@@ -52,7 +58,9 @@ fn push_areas(out: &mut Vec<u8>, spill: u64, areas: &[Area]) -> Result<(), NoMem
 }
 
 fn push_area(out: &mut Vec<u8>, offset: u64, area: &Area) -> Result<(), NoMemory>
-    ensures { OnOk result (out.new.items ≡ out.old.items ++ area_text offset area.now) }
+    ensures text { OnOk result (out.new.items ≡ out.old.items ++ area_text offset area.now) }
+    ensures kind { OnOk result (IsKind area.now.kind) }
+    ensures shape { OnOk result (IsShape area.now.shape) }
 {
     push_kind(out, &area.kind)?;
     push_text(out, " ")?;
@@ -62,7 +70,8 @@ fn push_area(out: &mut Vec<u8>, offset: u64, area: &Area) -> Result<(), NoMemory
 }
 
 fn push_kind(out: &mut Vec<u8>, kind: &AreaKind) -> Result<(), NoMemory>
-    ensures { OnOk result (out.new.items ≡ out.old.items ++ kind_text kind.now) }
+    ensures text { OnOk result (out.new.items ≡ out.old.items ++ kind_text kind.now) }
+    ensures kind { OnOk result (IsKind kind.now) }
 {
     match kind {
         AreaKind::In(name) => {
@@ -82,7 +91,8 @@ fn push_kind(out: &mut Vec<u8>, kind: &AreaKind) -> Result<(), NoMemory>
 }
 
 fn push_extents(out: &mut Vec<u8>, shape: &Shape) -> Result<(), NoMemory>
-    ensures { OnOk result (out.new.items ≡ out.old.items ++ extents_text shape.now) }
+    ensures text { OnOk result (out.new.items ≡ out.old.items ++ extents_text shape.now) }
+    ensures shape { OnOk result (IsShape shape.now) }
 {
     for extent in shape.extents() {
         push_text(out, " ")?;

@@ -1,7 +1,7 @@
 // Worked examples of the machine, computed.
-#![tactic(auto, unfolding(crate::specs::Examples::outcome_of))]
+#![tactic(auto, unfolding(crate::specs::MachineExamples::outcome_of))]
 
-ghost use Rattle.rv_line.specs.Examples.{block_after, end_of, loaded_from, register_after};
+ghost use Rattle.rv_line.specs.MachineExamples.{block_after, end_of, loaded_from, register_after};
 ghost use Rattle.rv_line.specs.Machine.{BadAccess, OffText, Trap, value_at, with_value};
 ghost use Rattle.rv_line.specs.Stops.{Budget, Done, Stopped};
 ghost use Rattle.rv_line.specs.declared.line.Branch.{Branch};
