@@ -1,0 +1,17 @@
+// Words, numbers and signs: the tokens that sources and array files are made of, and a scanner that gives the
+// tokens of a text one after the other.
+//
+// Contracts see a text as the list of its tokens with their positions, which specs/ defines from its bytes.
+// No call takes memory or copies the text, and the scanner takes time linear in its bytes.
+#![tactic(auto)]
+
+mod bytes;
+pub mod laws;
+mod looks;
+mod run;
+mod scanner;
+mod token;
+
+pub use looks::Looks;
+pub use scanner::Scanner;
+pub use token::{Position, Sign, Token};
