@@ -3,7 +3,7 @@ use Rattle.std.specs.Prelude.{IsSomeAnd}
 use Rattle.std.specs.FinMap.{get}
 use Rattle.psi_edges.specs.Files.{Files, OnFile, TellsFile}
 use Rattle.psi_top.specs.Command.{IsCompile}
-use Rattle.psi_top.specs.Outcome.{Compiles, IsUnread}
+use Rattle.psi_top.specs.Outcome.{Builds, Compiles, IsUnread}
 use Rattle.vector_sum.specs.Source.{Reads}
 use Rattle.vector_sum.specs.declared.source.VectorSum.{VectorSum}
 
@@ -36,3 +36,12 @@ compiled_unread words told name other source text a b tells compiled unread =
     let read : OnFile told name (λ file. Reads file compiled.sum) =
     subst (λ n. OnFile told n (λ file. Reads file compiled.sum)) (same_name words name other a b) compiled.read in
     unread compiled.sum (on_told_file told name source (λ file. Reads file compiled.sum) tells read)
+
+-- what was built of the bytes that were read is what is compiled of the file
+pub compiled : (told : Option Files) (name bytes text : List ℕ) → OnFile told name (λ file. bytes ≡ file) → Builds bytes text → Compiles told name text
+compiled told name bytes text whole built = record {
+  sum = built.sum;
+  read = on_file_weaker told name (λ file. bytes ≡ file) (λ file. Reads file built.sum) (λ file same. subst (λ source. Reads source built.sum) same built.read) whole;
+  good = built.good;
+  small = built.small;
+}

@@ -5,11 +5,12 @@ ghost use Rattle.psi_edges.specs.Files.{LacksFile, OnFile, TellsFile};
 ghost use Rattle.psi_edges.specs.Held.{Appends, AppendsFront};
 ghost use Rattle.psi_top.specs.Command.{IsCompile, usage_line, cannot_read_line, cannot_write_line, no_memory_line, not_built_line};
 ghost use Rattle.psi_top.specs.Refusal.{Explains, IsCause, line_of, status_of};
-ghost use Rattle.psi_top.specs.Outcome.{Compiles, FailsAt, IsDue, IsTextOf, IsTold, IsUnread};
+ghost use Rattle.psi_top.specs.Outcome.{Builds, Compiles, FailsAt, IsDue, IsTold, IsUnread};
 ghost use Rattle.vector_sum.specs.Source.{Reads};
 ghost use Rattle.vector_sum.specs.declared.source.VectorSum.{VectorSum};
 
 use psi_edges::{Fetch, Shelf, Sink, WriteFault, read_whole, write_whole};
+use rv_line::spelling_laws::texts_spell_one;
 use rv_line::text;
 use shapes_core::NoMemory;
 use std::alloc::Global;
@@ -73,14 +74,14 @@ fn file_to_compile(words: &[String]) -> Option<&str>
 
 /// The text for a source, or `None` where the source has none yet.
 fn text_for(alloc: Global, source: &[u8]) -> Result<Option<Vec<u8>>, NoMemory>
-    ensures built { IfOk result (λ found. IfSome found (λ text.
-        (v : VectorSum) × Reads source.now v × IsTextOf v text.items)) }
+    ensures built { IfOk result (λ found. IfSome found (λ text. Builds source.now text.items)) }
     ensures unbuilt { IfOk result (λ found. IfNone found (IsUnread source.now)) }
 {
     let Some(sum) = recognise(alloc, source)? else {
         return Ok(None);
     };
     let program = kernel(alloc, &sum)?;
+    texts_spell_one();
     Ok(Some(text(alloc, &program)?))
 }
 

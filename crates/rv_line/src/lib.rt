@@ -11,6 +11,8 @@ mod line;
 pub mod machine_examples;
 pub mod machine_laws;
 mod mnemonic;
+pub mod run_laws;
+pub mod spelling_laws;
 #[cfg(test)]
 mod tests;
 

@@ -1,4 +1,4 @@
-use Rattle.std.proofs.Common.{◌≡◌, ℕ, suc, ◌-◌, ◌^◌, not, ◌&&◌,  ◌+◌, ◌<◌, ◌≤◌, Bool, true, false, cond, ◌%◌, List, [], ◌∷◌, ◌++◌, length, take, drop, get_or, refl, sym, ap, ◌∙◌, append_assoc, arith}
+use Rattle.std.proofs.Common.{◌≡◌, ℕ, suc, ◌-◌, ◌^◌, not, ◌&&◌, ◌+◌, ◌<◌, ◌≤◌, Bool, true, false, cond, ◌%◌, List, [], ◌∷◌, ◌++◌, length, take, drop, get_or, refl, sym, ap, ◌∙◌, append_assoc, arith}
 use Rattle.std.proofs.Math.ListN.{drop_of_length-le}
 use Rattle.std.proofs.lemmas.List.{at_drop_more, take_more, append-nil}
 use Rattle.std.specs.List.{list_all}
@@ -55,9 +55,10 @@ word_front [] separator rest whole e = (ap (λ b. cond b [] (separator ∷ word 
 word_front (byte ∷ bytes) separator rest whole e =
     let here : is_separator byte ≡ false = grind (arith, nat_tests) in
     let later : IsWhole bytes = grind (arith, nat_tests) in
-    let more = word_front bytes separator rest later e in
-    (ap (λ b. cond b [] (byte ∷ word (bytes ++ separator ∷ rest))) here ∙ ap (λ w. byte ∷ w) more.0,
-        ap (λ b. cond b (bytes ++ separator ∷ rest) (after_word (bytes ++ separator ∷ rest))) here ∙ more.1)
+    let more = word_front bytes separator rest later e in (
+      ap (λ b. cond b [] (byte ∷ word (bytes ++ separator ∷ rest))) here ∙ ap (λ w. byte ∷ w) more.0,
+      ap (λ b. cond b (bytes ++ separator ∷ rest) (after_word (bytes ++ separator ∷ rest))) here ∙ more.1,
+    )
 
 -- a byte of a name ends no word
 name_byte_goes_on : (byte : ℕ) → is_name_byte byte ≡ true → not (is_separator byte) ≡ true

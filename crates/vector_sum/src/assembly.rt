@@ -1,28 +1,42 @@
 // The program of the sum of two vectors: pointers that walk the three areas, in one flat loop.
-ghost use Rattle.std.specs.Prelude.{◌≡◌, ◌*◌, ◌+◌, ◌^◌, ◌<◌, ◌≤◌, ◌++◌, IfOk, IsTrue, OnOk};
+ghost use Rattle.std.specs.Prelude.{◌≡◌, ◌*◌, ◌+◌, ◌^◌, ◌<◌, ◌≤◌, ◌++◌, IfOk, IsTrue, OnOk, length, ℕ};
+ghost use Rattle.std.specs.List.{list_all};
+ghost use Rattle.rv_line.specs.Good.{IsStart, Serves};
+ghost use Rattle.rv_line.specs.Kinds.{is_base, is_free};
+ghost use Rattle.rv_line.specs.Machine.{Config};
+ghost use Rattle.rv_line.specs.Stops.{Ends};
+ghost use Rattle.vector_sum.specs.Meaning.{demand};
 ghost use Rattle.vector_sum.specs.Source.{is_sound};
-ghost use Rattle.vector_sum.specs.Kernel.{areas_of, constant_lines, header_of, lines_of, walk_lines};
+ghost use Rattle.rv_line.specs.Constants.{constant_lines};
+ghost use Rattle.vector_sum.specs.Kernel.{areas_of, header_of, lines_of, walk_lines};
 
 use crate::source::VectorSum;
+use crate::walk::program_serves;
 use rv_line::{Assembly, Branch, Header, Imm, Line, Load, Store, Three};
 use shapes_core::{Area, AreaKind, NoMemory, Shape};
 use std::alloc::Global;
 
 // The registers of the calling convention, and those that the program writes.
 const ZERO: u8 = 0;
+
 const RETURN: u8 = 1;
+
 const BLOCK: u8 = 10;
+
 const LEFT: u8 = 5;
+
 const RIGHT: u8 = 6;
+
 const SUM: u8 = 7;
+
 const END: u8 = 11;
+
 const VALUE: u8 = 12;
+
 const OTHER: u8 = 13;
 
 /// The bytes of an element.
 const WORD: i32 = 8;
-
-
 
 /// Lines after which the register holds the number, which is below 2^31: one where it is a signed immediate,
 /// and else two.
@@ -31,13 +45,23 @@ fn push_constant(lines: &mut Vec<Line>, to: u8, value: u32) -> Result<(), NoMemo
     ensures { OnOk result (lines.new.items ≡ lines.old.items ++ constant_lines to value) }
 {
     if value < 2048 {
-        lines.push(Line::Imm { code: Imm::Addi, to, from: ZERO, imm: value as i32 })?;
+        lines.push(Line::Imm {
+            code: Imm::Addi,
+            to,
+            from: ZERO,
+            imm: value as i32,
+        })?;
         return Ok(());
     }
     let upper = (value + 2048) / 4096;
     let lower = (value as i64 - 4096 * upper as i64) as i32;
     lines.push(Line::Lui { to, imm: upper })?;
-    lines.push(Line::Imm { code: Imm::Addi, to, from: to, imm: lower })?;
+    lines.push(Line::Imm {
+        code: Imm::Addiw,
+        to,
+        from: to,
+        imm: lower,
+    })?;
     Ok(())
 }
 
@@ -46,19 +70,83 @@ fn push_walk(lines: &mut Vec<Line>, top: u32) -> Result<(), NoMemory>
     ensures { OnOk result (lines.new.items ≡ lines.old.items ++ walk_lines top) }
 {
     let walk = [
-        Line::Imm { code: Imm::Addi, to: LEFT, from: BLOCK, imm: 0 },
-        Line::Three { code: Three::Add, to: RIGHT, left: LEFT, right: END },
-        Line::Three { code: Three::Add, to: SUM, left: RIGHT, right: END },
-        Line::Imm { code: Imm::Addi, to: END, from: RIGHT, imm: 0 },
-        Line::Load { code: Load::Ld, to: VALUE, imm: 0, base: LEFT },
-        Line::Load { code: Load::Ld, to: OTHER, imm: 0, base: RIGHT },
-        Line::Three { code: Three::Add, to: VALUE, left: VALUE, right: OTHER },
-        Line::Store { code: Store::Sd, from: VALUE, imm: 0, base: SUM },
-        Line::Imm { code: Imm::Addi, to: LEFT, from: LEFT, imm: WORD },
-        Line::Imm { code: Imm::Addi, to: RIGHT, from: RIGHT, imm: WORD },
-        Line::Imm { code: Imm::Addi, to: SUM, from: SUM, imm: WORD },
-        Line::Branch { code: Branch::Bne, left: LEFT, right: END, target: top },
-        Line::Jalr { to: ZERO, imm: 0, base: RETURN },
+        Line::Imm {
+            code: Imm::Addi,
+            to: LEFT,
+            from: BLOCK,
+            imm: 0,
+        },
+        Line::Three {
+            code: Three::Add,
+            to: RIGHT,
+            left: LEFT,
+            right: END,
+        },
+        Line::Three {
+            code: Three::Add,
+            to: SUM,
+            left: RIGHT,
+            right: END,
+        },
+        Line::Imm {
+            code: Imm::Addi,
+            to: END,
+            from: RIGHT,
+            imm: 0,
+        },
+        Line::Load {
+            code: Load::Ld,
+            to: VALUE,
+            imm: 0,
+            base: LEFT,
+        },
+        Line::Load {
+            code: Load::Ld,
+            to: OTHER,
+            imm: 0,
+            base: RIGHT,
+        },
+        Line::Three {
+            code: Three::Add,
+            to: VALUE,
+            left: VALUE,
+            right: OTHER,
+        },
+        Line::Store {
+            code: Store::Sd,
+            from: VALUE,
+            imm: 0,
+            base: SUM,
+        },
+        Line::Imm {
+            code: Imm::Addi,
+            to: LEFT,
+            from: LEFT,
+            imm: WORD,
+        },
+        Line::Imm {
+            code: Imm::Addi,
+            to: RIGHT,
+            from: RIGHT,
+            imm: WORD,
+        },
+        Line::Imm {
+            code: Imm::Addi,
+            to: SUM,
+            from: SUM,
+            imm: WORD,
+        },
+        Line::Branch {
+            code: Branch::Bne,
+            left: LEFT,
+            right: END,
+            target: top,
+        },
+        Line::Jalr {
+            to: ZERO,
+            imm: 0,
+            base: RETURN,
+        },
     ];
     lines.extend_from_slice(&walk)?;
     Ok(())
@@ -80,22 +168,44 @@ fn areas_of(alloc: Global, v: &VectorSum) -> Result<Vec<Area>, NoMemory>
     ensures { IfOk result (λ areas. areas.items ≡ areas_of v.now) }
 {
     let shape = Shape::new(&[v.extent]).unwrap();
-    let areas = vec![
-        in alloc;
-        Area { kind: AreaKind::In(v.left), shape, start: 0 },
-        Area { kind: AreaKind::In(v.right), shape, start: v.extent },
-        Area { kind: AreaKind::Out(v.sum), shape, start: 2 * v.extent },
+    let areas = vec![in alloc;
+        Area {
+            kind: AreaKind::In(v.left),
+            shape,
+            start: 0
+        },
+        Area {
+            kind: AreaKind::In(v.right),
+            shape,
+            start: v.extent
+        },
+        Area {
+            kind: AreaKind::Out(v.sum),
+            shape,
+            start: 2 * v.extent
+        },
     ]?;
     Ok(areas)
 }
 
-/// The program. Its header's steps are those that every run makes.
+/// The program: what it does from any start, in how many steps, and how large it is. Its header's steps are those
+/// that every run makes.
 pub fn kernel(alloc: Global, v: &VectorSum) -> Result<Assembly, NoMemory>
     requires { IsTrue (is_sound v.now) }
     ensures header { IfOk result (λ program. program.header ≡ header_of v.now.extent) }
     ensures areas { IfOk result (λ program. program.areas ≡ areas_of v.now) }
     ensures lines { IfOk result (λ program. program.lines ≡ lines_of v.now.extent) }
+    ensures serves { IfOk result (λ program. (base : ℕ) (c : Config) → IsStart program.header program.areas program.lines base c
+        → Serves program.header program.areas program.lines demand base c) }
+    ensures exact_steps { IfOk result (λ program. (base : ℕ) (c : Config) → IsStart program.header program.areas program.lines base c
+        → (last : Config) × Ends program.lines base program.header.steps c last) }
+    ensures few_steps { IfOk result (λ program. program.header.steps ≤ 16 + 8 * v.now.extent) }
+    ensures no_spill { IfOk result (λ program. program.header.spill ≡ 0) }
+    ensures few_lines { IfOk result (λ program. length program.lines ≤ 15) }
+    ensures no_multiplication { IfOk result (λ program. IsTrue (list_all is_base program.lines)) }
+    ensures free_registers { IfOk result (λ program. IsTrue (list_all is_free program.lines)) }
 {
+    program_serves();
     let areas = areas_of(alloc, v)?;
     let lines = lines_of(alloc, v.extent)?;
     let header = Header {

@@ -4,6 +4,7 @@
 mod assembly;
 mod joined;
 mod source;
+mod walk;
 mod words;
 
 pub use assembly::kernel;

@@ -87,8 +87,21 @@ fn source(alloc: Global, v: &VectorSum) -> Result<Vec<u8>, NoMemory>
     let left = v.left.bytes();
     let right = v.right.bytes();
     let pieces: [&[u8]; 15] = [
-        b"psi 1\nin ", left, b" ", extent, b"\nin ", right, b" ", extent, b"\nout ", v.sum.bytes(),
-        b" = add ", left, b" ", right, b"\n",
+        b"psi 1\nin ",
+        left,
+        b" ",
+        extent,
+        b"\nin ",
+        right,
+        b" ",
+        extent,
+        b"\nout ",
+        v.sum.bytes(),
+        b" = add ",
+        left,
+        b" ",
+        right,
+        b"\n",
     ];
     joined(alloc, pieces.as_slice())
 }
@@ -114,5 +127,4 @@ pub fn recognise(alloc: Global, text: &[u8]) -> Result<Option<VectorSum>, NoMemo
 /// A source of this form has at most 512 bytes. The function does nothing: its clause is the law.
 pub fn sources_are_short()
     ensures { (text : List ℕ) (v : VectorSum) → Reads text v → length text ≤ 512 }
-{
-}
+{}
