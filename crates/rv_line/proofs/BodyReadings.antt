@@ -4,8 +4,9 @@ use Rattle.std.specs.List.{list_all, AllByRecursion}
 use Rattle.std.proofs.lemmas.Bool.{ne_eqb}
 use Rattle.rv_line.specs.Fits.{FitLines}
 use Rattle.rv_line.specs.Instructions.{is_blank, is_label_byte, IsLabel, IsGlobal, Says}
-use Rattle.rv_line.specs.Spells.{SpellLines}
-use Rattle.rv_line.specs.Spells.SpellLines.{end, empty, section, global, label, instruction}
+use Rattle.rv_line.specs.Spells.{SaysNothing, SpellLines}
+use Rattle.rv_line.specs.Spells.SaysNothing.{empty, section, global}
+use Rattle.rv_line.specs.Spells.SpellLines.{end, skip, label, instruction}
 use Rattle.rv_line.specs.declared.line.Line.{Line}
 use Rattle.rv_line.proofs.Cuts.{until, until-append, core_of, says_core, none_is, all_of_both, blanks_bare}
 use Rattle.rv_line.proofs.LineReadings.{AreTextLabels, is_label_core, is_code, last_parts, line_of, Reads, line_read}
@@ -103,28 +104,32 @@ names labels text texts at lines defined name core says named rest =
     }
 
 codes_line : (labels : List (List ℕ × ℕ)) (text : List ℕ) (texts : List (List ℕ)) (at : ℕ) (line : Line) (lines : List Line) (defined : List (List ℕ × ℕ)) (core : List ℕ) → Says text core → Reads labels core line → BodyRead labels texts (at + 1) lines defined → BodyRead labels (text ∷ texts) at (line ∷ lines) defined
-codes_line labels text texts at line lines defined core says reads rest =
+codes_line labels text texts at line program defined core says reads rest =
     let read = says_core text core reads.tight says in
     record {
       labels_are = ap (λ c. labels_with c at (labels_of texts at) (labels_of texts (at + 1))) read ∙ rw (reads.not_label, reads.code) rest.labels_are;
       lines_are = ap (λ c. lines_with labels c (lines_of labels texts)) read ∙ rw (reads.not_label, reads.code) (ap (λ l. l ∷ lines_of labels texts) reads.line_is ∙ ap (λ ls. line ∷ ls) rest.lines_are);
     }
 
+-- a line that means nothing says a core that is passed over
+nothing_core : {text : List ℕ} → SaysNothing text → (core : List ℕ) × Says text core × IsSkipped core
+nothing_core (empty says) = ([], says, nothing_skipped)
+nothing_core (section says) = (codes ".text", says, section_skipped)
+nothing_core (global core says is) = (core, says, global_skipped core is)
+
 -- texts spell one list of lines, and define one list of labels
 pub body_read : (labels : List (List ℕ × ℕ)) (count : ℕ) {texts : List (List ℕ)} {at : ℕ} {lines : List Line} {defined : List (List ℕ × ℕ)} → AreTextLabels labels → SpellLines labels texts at lines defined → FitLines count at lines → BodyRead labels texts at lines defined
 body_read labels count are end fit = record { labels_are = refl; lines_are = refl }
-body_read labels count are (empty {text} {texts} {at} {lines} {defined} says rest) fit = skips labels text texts at lines defined [] says nothing_skipped (body_read labels count are rest fit)
-body_read labels count are (section {text} {texts} {at} {lines} {defined} says rest) fit = skips labels text texts at lines defined (codes ".text") says section_skipped (body_read labels count are rest fit)
-body_read labels count are (global {text} {texts} {at} {lines} {defined} core says is rest) fit = skips labels text texts at lines defined core says (global_skipped core is) (body_read labels count are rest fit)
-body_read labels count are (label {text} {texts} {at} {lines} {defined} name says is rest) fit = names labels text texts at lines defined name (name ++ codes ":") says (label_named name is) (body_read labels count are rest fit)
-body_read labels count are (instruction {text} {texts} {at} {line} {lines} {defined} core says spelled rest) fit =
-    codes_line labels text texts at line lines defined core says (line_read labels count at core line are fit.0 spelled) (body_read labels count are rest fit.1)
+body_read labels count are (skip {text} {texts} {at} {program} {defined} nothing rest) fit =
+    let core = nothing_core nothing in
+    skips labels text texts at program defined core.0 core.1 core.2 (body_read labels count are rest fit)
+body_read labels count are (label {text} {texts} {at} {program} {defined} name says is rest) fit = names labels text texts at program defined name (name ++ codes ":") says (label_named name is) (body_read labels count are rest fit)
+body_read labels count are (instruction {text} {texts} {at} {line} {program} {defined} core says spelled rest) fit =
+    codes_line labels text texts at line program defined core says (line_read labels count at core line are fit.0 spelled) (body_read labels count are rest fit.1)
 
 -- labels have names of labels
 pub labels_named : (labels : List (List ℕ × ℕ)) {texts : List (List ℕ)} {at : ℕ} {lines : List Line} {defined : List (List ℕ × ℕ)} → SpellLines labels texts at lines defined → AllByRecursion (λ one. IsLabel one.0) defined
 labels_named labels end = tt
-labels_named labels (empty says rest) = labels_named labels rest
-labels_named labels (section says rest) = labels_named labels rest
-labels_named labels (global core says is rest) = labels_named labels rest
+labels_named labels (skip nothing rest) = labels_named labels rest
 labels_named labels (label name says is rest) = (is, labels_named labels rest)
 labels_named labels (instruction core says spelled rest) = labels_named labels rest

@@ -1,9 +1,9 @@
 -- Lines that set a register to a number.
-use Rattle.std.proofs.Common.{◌≡◌, ℕ, ◌+◌, ◌-◌, ◌*◌, ◌/◌, ◌%◌, ◌^◌, ◌<◌, ◌≤◌, zero, suc, Bool, true, false, inl, inr, Some, List, [], ◌∷◌, length, pos, refl, sym, ap, ◌∙◌, arith}
+use Rattle.std.proofs.Common.{◌≡◌, ℕ, ◌+◌, ◌*◌, ◌%◌, ◌^◌, ◌<◌, zero, suc, Bool, true, false, inl, inr, Some, List, [], ◌∷◌, length, pos, refl, ap, ◌∙◌, arith}
 use Rattle.std.proofs.lemmas.Bool.Decides.{nat_tests}
 use Rattle.std.proofs.lemmas.Int.{ints}
 use Rattle.std.proofs.lemmas.Bool.{cases_lt}
-use Rattle.std.specs.Prelude.{IsTrue, if◌then◌else◌, nat_lt, ◌-ℤ◌, slice_set}
+use Rattle.std.specs.Prelude.{IsTrue, nat_lt, ◌-ℤ◌, slice_set}
 use Rattle.std.specs.Int.{cast_signed, w32}
 use Rattle.rv_line.specs.declared.line.Imm.{Imm}
 use Rattle.rv_line.specs.declared.line.Imm.TheVariants.{Addi, Addiw}

@@ -6,7 +6,8 @@ use Rattle.rv_line.specs.SpellingExamples.{small_text, small_parts, loose_text}
 use Rattle.rv_line.specs.Fits.{AreAreas, FitLines}
 use Rattle.rv_line.specs.Instructions.{Takes}
 use Rattle.rv_line.specs.Spells.{Spells}
-use Rattle.rv_line.specs.Spells.SpellLines.{end, empty, global, label, instruction}
+use Rattle.rv_line.specs.Spells.SaysNothing.{empty, global}
+use Rattle.rv_line.specs.Spells.SpellLines.{end, skip, label, instruction}
 use Rattle.rv_line.proofs.BodyLemmas.{Says-itself}
 
 areas_are : AreAreas small_parts.areas
@@ -129,12 +130,12 @@ loose_spelled = record {
   rows_end = refl;
   areas = areas_are;
   body_spells =
-      empty (record { lead = []; trail = []; comment = codes "# the program"; spelled = refl; before = refl; behind = refl; ended = refl }) (
+      skip (empty (record { lead = []; trail = []; comment = codes "# the program"; spelled = refl; before = refl; behind = refl; ended = refl })) (
       label (codes "start") (record { lead = 9 ∷ []; trail = 32 ∷ []; comment = codes "# here"; spelled = refl; before = refl; behind = refl; ended = refl }) refl (
-      empty (Says-itself [] [] refl) (
-      global (codes ".globl  gone") (Says-itself (32 ∷ []) (codes ".globl  gone") refl) (
+      skip (empty (Says-itself [] [] refl)) (
+      skip (global (codes ".globl  gone") (Says-itself (32 ∷ []) (codes ".globl  gone") refl) (
       record { gap = 32 ∷ 32 ∷ []; name = codes "gone"; spelled = refl; apart = refl; some = omega arith; label = refl }
-      ) (
+      )) (
       instruction (codes "lui\tx5 ,0524288") (record { lead = 9 ∷ []; trail = []; comment = codes "#"; spelled = refl; before = refl; behind = refl; ended = refl }) (
       record { digits = codes "0524288"; number = record { digits = search rules; value = refl }; takes = loose_lui }
       ) (

@@ -9,7 +9,8 @@ use Rattle.shapes_core.specs.declared.area.AreaKind.TheVariants.{In, Out, Scan}
 use Rattle.rv_line.specs.Instructions.{is_blank, AreBlanks, IsComment, Says, SpellsLine}
 use Rattle.rv_line.specs.Rows.{is_row, SpellRows, SpellsRow, SpellsKind}
 use Rattle.rv_line.specs.Spells.{SpellLines}
-use Rattle.rv_line.specs.Spells.SpellLines.{end, empty, section, global, label, instruction}
+use Rattle.rv_line.specs.Spells.SaysNothing.{empty, section, global}
+use Rattle.rv_line.specs.Spells.SpellLines.{end, skip, label, instruction}
 use Rattle.rv_line.specs.declared.line.Line.{Line}
 use Rattle.rv_line.proofs.FormLemmas.{first_word, form_of, no_line}
 use Rattle.rv_line.proofs.LinesLemmas.{both}
@@ -83,16 +84,16 @@ pub record First (labels : List (List ℕ × ℕ)) (text : List ℕ) (texts : Li
   pub others : SpellLines labels texts (at + 1) lines defined
 
 pub first_line : (labels : List (List ℕ × ℕ)) {text : List ℕ} {texts : List (List ℕ)} {at : ℕ} {program : List Line} {defined : List (List ℕ × ℕ)} → IsInstruction text → SpellLines labels (text ∷ texts) at program defined → First labels text texts at program defined
-first_line labels {text} is (empty says rest) =
+first_line labels {text} is (skip (empty says) rest) =
     let alone = tight_core text [] is.tight says in
     let some = is.some in
     absurd (omega (arith, ap length alone))
-first_line labels {text} is (section says rest) = absurd (is.begins (ap (λ t. get_or t 0 0) (tight_core text (codes ".text") is.tight says)))
-first_line labels {text} is (global core says g rest) = absurd (is.begins (ap (λ t. get_or t 0 0) (tight_core text core is.tight says ∙ g.spelled)))
+first_line labels {text} is (skip (section says) rest) = absurd (is.begins (ap (λ t. get_or t 0 0) (tight_core text (codes ".text") is.tight says)))
+first_line labels {text} is (skip (global core says g) rest) = absurd (is.begins (ap (λ t. get_or t 0 0) (tight_core text core is.tight says ∙ g.spelled)))
 first_line labels {text} is (label name says named rest) =
     absurd (is.ends (ap (last_of 0) (tight_core text (name ++ codes ":") is.tight says) ∙ last_of-append 0 name 58 []))
-first_line labels {text} is (instruction {line} {lines} core says spelled rest) =
-    record { line = line; lines = lines; is = refl; spelled = rw (sym (tight_core text core is.tight says)) at spelled; others = rest }
+first_line labels {text} is (instruction {line} {program} core says spelled rest) =
+    record { line = line; lines = program; is = refl; spelled = rw (sym (tight_core text core is.tight says)) at spelled; others = rest }
 
 -- no texts define no labels
 pub no_texts : (labels : List (List ℕ × ℕ)) {at : ℕ} {program : List Line} {defined : List (List ℕ × ℕ)} → SpellLines labels [] at program defined → defined ≡ []
@@ -111,11 +112,11 @@ pub record FirstLabel (labels : List (List ℕ × ℕ)) (name : List ℕ) (texts
   pub others : SpellLines labels texts at program more
 
 pub first_label : (labels : List (List ℕ × ℕ)) (name : List ℕ) {texts : List (List ℕ)} {text : List ℕ} {at : ℕ} {program : List Line} {defined : List (List ℕ × ℕ)} → IsLabelLine name → text ≡ name ++ codes ":" → SpellLines labels (text ∷ texts) at program defined → FirstLabel labels name texts at program defined
-first_label labels name {text} is same (empty says rest) =
+first_label labels name {text} is same (skip (empty says) rest) =
     let alone = tight_core (name ++ codes ":") [] is.tight (rw same at says) in
     absurd (omega (arith, length-append name (58 ∷ []), ap length alone))
-first_label labels name {text} is same (section says rest) = absurd (is.begins (ap (λ t. get_or t 0 0) (tight_core (name ++ codes ":") (codes ".text") is.tight (rw same at says))))
-first_label labels name {text} is same (global core says g rest) = absurd (is.begins (ap (λ t. get_or t 0 0) (tight_core (name ++ codes ":") core is.tight (rw same at says) ∙ g.spelled)))
+first_label labels name {text} is same (skip (section says) rest) = absurd (is.begins (ap (λ t. get_or t 0 0) (tight_core (name ++ codes ":") (codes ".text") is.tight (rw same at says))))
+first_label labels name {text} is same (skip (global core says g) rest) = absurd (is.begins (ap (λ t. get_or t 0 0) (tight_core (name ++ codes ":") core is.tight (rw same at says) ∙ g.spelled)))
 first_label labels name {text} {at} is same (label {defined} found says named rest) =
     let names : name ≡ found = (same_from_push name found 58 58 (tight_core (name ++ codes ":") (found ++ codes ":") is.tight (rw same at says))).0 in
     record { more = defined; is = ap (λ n. (n, at) ∷ defined) (sym names); others = rest }
@@ -123,7 +124,7 @@ first_label labels name {text} is same (instruction {line} core says spelled res
     absurd (no_line labels core line (rw (tight_core (name ++ codes ":") core is.tight (rw same at says)) at is.no_mnemonic) spelled)
 
 -- a row begins as a row
-row_begins : (row : List ℕ) (word : ℕ) (area : Area) → SpellsRow row word area → is_row row ≡ true
+pub row_begins : (row : List ℕ) (word : ℕ) (area : Area) → SpellsRow row word area → is_row row ≡ true
 row_begins row word area spells = by_kind area.kind spells.kind
   where
     by_kind : (kind : AreaKind) → SpellsKind spells.front kind → is_row row ≡ true

@@ -10,6 +10,7 @@ use Rattle.shapes_core.specs.Name.{IsName, is_letter, is_digit, is_name_byte}
 use Rattle.shapes_core.specs.declared.area.Area.{Area}
 use Rattle.shapes_core.specs.declared.area.AreaKind.{AreaKind}
 use Rattle.shapes_core.specs.declared.area.AreaKind.TheVariants.{In, Out, Scan}
+use Rattle.rv_line.proofs.RefusalLemmas.{row_begins}
 use Rattle.rv_line.specs.Numbers.{IsNumber, AreNumbers}
 use Rattle.rv_line.specs.Rows.{is_row, SpellsKind, SpellsRow, SpellRows, spaced}
 use Rattle.rv_line.specs.Spells.{EndsRows}
@@ -115,14 +116,6 @@ rows_read [] spill [] spells = refl
 rows_read [] spill (area ∷ areas) spells = absurd spells
 rows_read (row ∷ rows) spill [] spells = absurd spells
 rows_read (row ∷ rows) spill (area ∷ areas) spells = rw (row_read row spill area spells.0, rows_read rows spill areas spells.1) refl
-
-row_begins : (row : List ℕ) (word : ℕ) (area : Area) → SpellsRow row word area → is_row row ≡ true
-row_begins row word area spells = by_kind area.kind spells.kind
-  where
-    by_kind : (kind : AreaKind) → SpellsKind spells.front kind → is_row row ≡ true
-    by_kind (In name) known = rw (spells.spelled, known.0) refl
-    by_kind (Out name) known = rw (spells.spelled, known.0) refl
-    by_kind (Scan number) known = rw (spells.spelled, known.1) refl
 
 are_rows : (rows : List (List ℕ)) (spill : ℕ) (areas : List Area) → SpellRows rows spill areas → list_all (λ row. not (not (is_row row))) rows ≡ true
 are_rows [] spill areas spells = refl

@@ -5,13 +5,14 @@ use Rattle.std.specs.List.{AllByRecursion}
 use Rattle.std.specs.Str.Lines.{lines}
 use Rattle.std.proofs.lemmas.List.Elements.{All-from_recursion, Contains-append_right}
 use Rattle.std.proofs.lemmas.List.Kept.{AllPairs-cons}
-use Rattle.shapes_core.specs.declared.area.Area.{Area}
 use Rattle.rv_line.specs.Emitted.{emitted, header_text, areas_text, lines_text, is_labelled, label_name, target_of}
 use Rattle.rv_line.specs.Fits.{Fits}
+use Rattle.rv_line.specs.Instructions.{IsGlobal}
 use Rattle.rv_line.specs.Parts.{Parts}
 use Rattle.rv_line.specs.Rows.{HasRow}
 use Rattle.rv_line.specs.Spells.{Spells}
-use Rattle.rv_line.specs.Spells.SpellLines.{section, global, label}
+use Rattle.rv_line.specs.Spells.SaysNothing.{section, global}
+use Rattle.rv_line.specs.Spells.SpellLines.{skip, label}
 use Rattle.rv_line.specs.declared.assembly.Header.{Header}
 use Rattle.rv_line.specs.declared.line.Line.{Line}
 use Rattle.rv_line.proofs.BodyLemmas.{body_lines, labels_defined, label_names, lines_body, spelled_body, targets_defined, labels_differ, IsLater, names_later, HasLabel, Says-itself}
@@ -51,8 +52,11 @@ lines_header header rest steps spill =
     )
 
 -- the lines of what is written
-lines_emitted : (header : Header) (areas : List Area) (program : List Line) → Fits header areas program → AllByRecursion (HasRow header.spill) areas → lines (emitted header areas program) ≡ codes "# psi 1" ∷ (codes "# steps " ++ decimal header.steps) ∷ (codes "# spill " ++ decimal header.spill) ∷ (rows header.spill areas ++ (preamble ++ body_lines (is_labelled program) 0 program))
-lines_emitted header areas program fits has =
+lines_emitted : (parts : Parts) → Fits parts.header parts.areas parts.lines → AllByRecursion (HasRow parts.header.spill) parts.areas → lines (emitted parts) ≡ codes "# psi 1" ∷ (codes "# steps " ++ decimal parts.header.steps) ∷ (codes "# spill " ++ decimal parts.header.spill) ∷ (rows parts.header.spill parts.areas ++ (preamble ++ body_lines (is_labelled parts.lines) 0 parts.lines))
+lines_emitted parts fits has =
+    let header = parts.header in
+    let areas = parts.areas in
+    let program = parts.lines in
     let behind = codes ".text\n.globl psi_main\npsi_main:\n" ++ lines_text (is_labelled program) 0 program in
     ap lines (grouped (header_text header) (areas_text header.spill areas) (codes ".text\n.globl psi_main\npsi_main:\n") (lines_text (is_labelled program) 0 program))
     ∙ lines_header header (areas_text header.spill areas ++ behind) fits.steps fits.spill
@@ -100,8 +104,11 @@ labels_all_differ program small =
     (All-from_recursion (λ name. codes "psi_main" ≢ name) names (main_differs names (names_later (is_labelled program) 0 program (omega arith))))
     (labels_differ (is_labelled program) 0 program (omega arith))
 
+global_main : IsGlobal (codes ".globl psi_main")
+global_main = record { gap = 32 ∷ []; name = codes "psi_main"; spelled = refl; apart = refl; some = omega arith; label = refl }
+
 -- what is written spells what it was made of
-pub emitted_spells : (parts : Parts) → Fits parts.header parts.areas parts.lines → AllByRecursion (HasRow parts.header.spill) parts.areas → Spells (emitted parts.header parts.areas parts.lines) parts
+pub emitted_spells : (parts : Parts) → Fits parts.header parts.areas parts.lines → AllByRecursion (HasRow parts.header.spill) parts.areas → Spells (emitted parts) parts
 emitted_spells parts fits has =
     let program = parts.lines in
     let labels = all_labels program in
@@ -113,7 +120,7 @@ emitted_spells parts fits has =
       rows = rows parts.header.spill parts.areas;
       body = preamble ++ body_lines (is_labelled program) 0 program;
       labels = labels;
-      split = lines_emitted parts.header parts.areas program fits has;
+      split = lines_emitted parts fits has;
       steps_number = IsNumber-decimal parts.header.steps (omega arith);
       steps_small = fits.steps;
       spill_number = IsNumber-decimal parts.header.spill (omega arith);
@@ -122,15 +129,8 @@ emitted_spells parts fits has =
       rows_end = refl;
       areas = fits.in_block;
       body_spells =
-          section (Says-itself [] (codes ".text") refl) (
-          global (codes ".globl psi_main") (Says-itself [] (codes ".globl psi_main") refl) (record {
-            gap = 32 ∷ [];
-            name = codes "psi_main";
-            spelled = refl;
-            apart = refl;
-            some = omega arith;
-            label = refl;
-          }) (
+          skip (section (Says-itself [] (codes ".text") refl)) (
+          skip (global (codes ".globl psi_main") (Says-itself [] (codes ".globl psi_main") refl) global_main) (
           label (codes "psi_main") (Says-itself [] (codes "psi_main:") refl) refl (
           spelled_body labels (is_labelled program) (length program) 0 program fits.line_count (zero-add (length program)) fits.in_form (
           all_more_labels (codes "psi_main", 0) (labels_defined (is_labelled program) 0 program) program (

@@ -6,6 +6,7 @@ use Rattle.shapes_core.specs.declared.area.Area.{Area}
 use Rattle.shapes_core.specs.declared.area.AreaKind.{AreaKind}
 use Rattle.shapes_core.specs.declared.area.AreaKind.TheVariants.{In, Out, Scan}
 use Rattle.rv_line.specs.Mnemonics.{three_mnemonic, imm_mnemonic, load_mnemonic, store_mnemonic, branch_mnemonic}
+use Rattle.rv_line.specs.Parts.{Parts}
 use Rattle.rv_line.specs.declared.assembly.Header.{Header}
 use Rattle.rv_line.specs.declared.line.Line.{Line}
 use Rattle.rv_line.specs.declared.line.Line.TheVariants.{Three as ThreeLine, Imm as ImmLine, Load as LoadLine, Store as StoreLine, Branch as BranchLine, Lui, Auipc, Jal, Jalr, Fence, Ecall, Ebreak}
@@ -90,9 +91,9 @@ abbrev pub header_text : Header → List ℕ
 header_text header = codes "# psi 1\n# steps " ++ decimal header.steps ++ codes "\n# spill " ++ decimal header.spill ++ codes "\n"
 
 -- the text that is written
-abbrev pub emitted : Header → List Area → List Line → List ℕ
-emitted header areas lines =
-    header_text header ++ areas_text header.spill areas ++ codes ".text\n.globl psi_main\npsi_main:\n" ++ lines_text (is_labelled lines) 0 lines
+abbrev pub emitted : Parts → List ℕ
+emitted parts =
+    header_text parts.header ++ areas_text parts.header.spill parts.areas ++ codes ".text\n.globl psi_main\npsi_main:\n" ++ lines_text (is_labelled parts.lines) 0 parts.lines
 
 -- the lines of the text on which the lines from number `at` on stand, where `row` is the next one
 abbrev pub places_from : (ℕ → Bool) → ℕ → ℕ → List Line → List ℕ

@@ -1,6 +1,6 @@
 -- What a program does for its caller: from any block that is as long as the header says, it ends within the printed steps, with every
 -- output holding what is demanded of the inputs, and touches nothing else. This is what a compiled text is good for.
-use Rattle.std.specs.Prelude.{◌≡◌, ℕ, ◌+◌, ◌*◌, ◌%◌, ◌^◌, ◌≤◌, Bool, true, false, not, ◌&&◌, ◌||◌, ◌==◌, nat_le, IsTrue, List, [], ◌∷◌, length, map, filter, ℤ}
+use Rattle.std.specs.Prelude.{◌≡◌, ℕ, ◌+◌, ◌*◌, ◌%◌, ◌^◌, ◌≤◌, Bool, true, false, not, ◌&&◌, ◌||◌, ◌==◌, nat_le, IsTrue, List, length, map, filter, ℤ}
 use Rattle.std.specs.List.{list_any, range_with_len}
 use Rattle.std.specs.Int.{w64}
 use Rattle.shapes_core.specs.Shape.{total}

@@ -45,7 +45,7 @@ IsKind (In name) = IsName name
 IsKind (Out name) = IsName name
 IsKind (Scan number) = number < 2 ^ 32
 
--- what a writer of rows finds: a name, a shape and an offset of 64 bits
+-- what is known of each area whose row is written: a name, a shape and an offset of 64 bits
 pub record HasRow (spill : ℕ) (area : Area) : Type 0 where
   pub kind : IsKind area.kind
   pub shape : IsShape area.shape

@@ -7,14 +7,24 @@ use Rattle.rv_line.specs.Parts.{Parts}
 use Rattle.rv_line.specs.Rows.{is_row, SpellRows}
 use Rattle.rv_line.specs.declared.line.Line.{Line}
 
--- texts with the lines that they spell, of which the first has a number, and with the labels that they define: `labels` are those of the whole text
+-- a line of the text that means nothing
+pub data SaysNothing : List ℕ → Type 0 where
+  empty : {text : List ℕ} → Says text [] → SaysNothing text
+  section : {text : List ℕ} → Says text (codes ".text") → SaysNothing text
+  global : {text : List ℕ} (core : List ℕ) → Says text core → IsGlobal core → SaysNothing text
+
+-- the texts of lines, the number of the next instruction, the instructions from it on, and the labels that these texts define. `labels` are those of the whole body
 pub data SpellLines (labels : List (List ℕ × ℕ)) : List (List ℕ) → ℕ → List Line → List (List ℕ × ℕ) → Type 0 where
   end : {at : ℕ} → SpellLines labels [] at [] []
-  empty : {text : List ℕ} {texts : List (List ℕ)} {at : ℕ} {lines : List Line} {defined : List (List ℕ × ℕ)} → Says text [] → SpellLines labels texts at lines defined → SpellLines labels (text ∷ texts) at lines defined
-  section : {text : List ℕ} {texts : List (List ℕ)} {at : ℕ} {lines : List Line} {defined : List (List ℕ × ℕ)} → Says text (codes ".text") → SpellLines labels texts at lines defined → SpellLines labels (text ∷ texts) at lines defined
-  global : {text : List ℕ} {texts : List (List ℕ)} {at : ℕ} {lines : List Line} {defined : List (List ℕ × ℕ)} → (core : List ℕ) → Says text core → IsGlobal core → SpellLines labels texts at lines defined → SpellLines labels (text ∷ texts) at lines defined
-  label : {text : List ℕ} {texts : List (List ℕ)} {at : ℕ} {lines : List Line} {defined : List (List ℕ × ℕ)} → (name : List ℕ) → Says text (name ++ codes ":") → IsLabel name → SpellLines labels texts at lines defined → SpellLines labels (text ∷ texts) at lines ((name, at) ∷ defined)
-  instruction : {text : List ℕ} {texts : List (List ℕ)} {at : ℕ} {line : Line} {lines : List Line} {defined : List (List ℕ × ℕ)} → (core : List ℕ) → Says text core → SpellsLine labels core line → SpellLines labels texts (at + 1) lines defined → SpellLines labels (text ∷ texts) at (line ∷ lines) defined
+  skip : {text : List ℕ} {texts : List (List ℕ)} {at : ℕ} {program : List Line} {defined : List (List ℕ × ℕ)} →
+      SaysNothing text → SpellLines labels texts at program defined →
+      SpellLines labels (text ∷ texts) at program defined
+  label : {text : List ℕ} {texts : List (List ℕ)} {at : ℕ} {program : List Line} {defined : List (List ℕ × ℕ)} (name : List ℕ) →
+      Says text (name ++ codes ":") → IsLabel name → SpellLines labels texts at program defined →
+      SpellLines labels (text ∷ texts) at program ((name, at) ∷ defined)
+  instruction : {text : List ℕ} {texts : List (List ℕ)} {at : ℕ} {line : Line} {program : List Line} {defined : List (List ℕ × ℕ)} (core : List ℕ) →
+      Says text core → SpellsLine labels core line → SpellLines labels texts (at + 1) program defined →
+      SpellLines labels (text ∷ texts) at (line ∷ program) defined
 
 -- the areas' rows end where a line begins otherwise
 abbrev pub EndsRows : List (List ℕ) → Type 0

@@ -11,15 +11,16 @@ use shapes_core::{Area, NoMemory, total};
 use std::alloc::Global;
 use std::marker::Model;
 
-/// What a text says of itself: the greatest number of steps, and how many words of the block stand before the areas.
+/// What a text says of itself: the greatest number of steps, and how many words of the block stand
+/// before the areas.
 #[derive(Clone, Copy)]
 pub struct Header {
     pub steps: u64,
     pub spill: u64,
 }
 
-/// A program: its header, the areas of its block, its lines, and the line of a text where each stands, counted from 1.
-/// Contracts see these as `Parts`.
+/// A program: its header, the areas of its block, its lines, and the line of a text where each
+/// stands, counted from 1. Contracts see these as `Parts`.
 #[derive(Drop)]
 pub struct Assembly {
     header: Header,
@@ -34,9 +35,19 @@ impl Model for Assembly {
 
     ghost Value = { Parts };
 
-    ghost view = { λ a. record { header = a.header; areas = a.areas.items; lines = a.lines.items; places = a.places.items } };
+    ghost view = { λ a. record {
+      header = a.header;
+      areas = a.areas.items;
+      lines = a.lines.items;
+      places = a.places.items;
+    } };
 
-    ghost invariant = { λ a. IsAssembly (record { header = a.header; areas = a.areas.items; lines = a.lines.items; places = a.places.items }) };
+    ghost invariant = { λ a. IsAssembly (record {
+      header = a.header;
+      areas = a.areas.items;
+      lines = a.lines.items;
+      places = a.places.items;
+    }) };
 }
 
 impl Assembly {
@@ -52,7 +63,8 @@ impl Assembly {
         ensures header { IfOk result (λ assembly. assembly.header ≡ header) }
         ensures areas { IfOk result (λ assembly. assembly.areas ≡ areas.items) }
         ensures lines { IfOk result (λ assembly. assembly.lines ≡ lines.items) }
-        ensures places { IfOk result (λ assembly. assembly.places ≡ emitted_places areas.items lines.items) }
+        ensures places { IfOk result (λ assembly.
+            assembly.places ≡ emitted_places areas.items lines.items) }
     {
         let labelled = labels(alloc, &lines)?;
         let places = places(alloc, areas.len(), &lines, &labelled)?;

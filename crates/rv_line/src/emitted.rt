@@ -1,6 +1,15 @@
 // The text of a program.
 ghost use Rattle.std.specs.Prelude.{◌≡◌, ◌+◌, ◌≤◌, ◌<◌, ◌++◌, ◌^◌, IfOk, OnOk, length};
-ghost use Rattle.rv_line.specs.Emitted.{emitted, header_text, areas_text, area_text, kind_text, extents_text, lines_text, is_labelled};
+ghost use Rattle.rv_line.specs.Emitted.{
+  emitted,
+  header_text,
+  areas_text,
+  area_text,
+  kind_text,
+  extents_text,
+  lines_text,
+  is_labelled,
+};
 ghost use Rattle.rv_line.specs.Labels.{AreLabels};
 ghost use Rattle.rv_line.specs.Rows.{IsKind, HasRow};
 ghost use Rattle.rv_line.specs.Spells.{Spells};
@@ -15,10 +24,11 @@ use crate::line::Line;
 use shapes_core::{Area, AreaKind, NoMemory, Shape, total};
 use std::alloc::Global;
 
-/// Writes the program in the spelling that is emitted: the header, the rows of the areas, and a line for each
-/// instruction and each label. The lines stand where `text_line` says if the program comes from `Assembly::new`.
+/// Writes the program in the spelling that is emitted: the header, the rows of the areas, and a line
+/// for each instruction and each label. The lines stand where `text_line` says if the program comes
+/// from `Assembly::new`.
 pub fn text(alloc: Global, program: &Assembly) -> Result<Vec<u8>, NoMemory>
-    ensures exact { IfOk result (λ bytes. bytes.items ≡ emitted program.now.header program.now.areas program.now.lines) }
+    ensures exact { IfOk result (λ bytes. bytes.items ≡ emitted program.now) }
     ensures spells { IfOk result (λ bytes. Spells bytes.items program.now) }
 {
     let lines = program.lines();
@@ -105,7 +115,9 @@ fn push_extents(out: &mut Vec<u8>, shape: &Shape) -> Result<(), NoMemory>
 fn push_lines(out: &mut Vec<u8>, lines: &[Line], labelled: &[bool]) -> Result<(), NoMemory>
     requires labels { AreLabels lines.now labelled.now }
     requires count { length lines.now ≤ 2 ^ 30 }
-    ensures { OnOk result (out.new.items ≡ out.old.items ++ lines_text (is_labelled lines.now) 0 lines.now) }
+    ensures { OnOk result (
+        out.new.items ≡ out.old.items ++ lines_text (is_labelled lines.now) 0 lines.now
+        ) }
 {
     for (at, line) in lines.iter().enumerate() {
         push_label(out, labelled[at], at as u32)?;

@@ -60,7 +60,10 @@ pub fn push_label_name(out: &mut Vec<u8>, number: u32) -> Result<(), NoMemory>
 
 /// A mnemonic, a register and the comma behind it.
 fn push_first(out: &mut Vec<u8>, mnemonic: &str, register: u8) -> Result<(), NoMemory>
-    ensures { OnOk result (out.new.items ≡ out.old.items ++ (mnemonic.now ++ codes " " ++ register_text register ++ codes ", ")) }
+    ensures { OnOk result (
+        out.new.items ≡ out.old.items ++
+        (mnemonic.now ++ codes " " ++ register_text register ++ codes ", ")
+        ) }
 {
     push_text(out, mnemonic)?;
     push_text(out, " ")?;
@@ -70,7 +73,10 @@ fn push_first(out: &mut Vec<u8>, mnemonic: &str, register: u8) -> Result<(), NoM
 
 /// A mnemonic, two registers and the comma behind each.
 fn push_two(out: &mut Vec<u8>, mnemonic: &str, one: u8, two: u8) -> Result<(), NoMemory>
-    ensures { OnOk result (out.new.items ≡ out.old.items ++ (two_operands mnemonic.now (register_text one) (register_text two) ++ codes ", ")) }
+    ensures { OnOk result (
+        out.new.items ≡ out.old.items ++
+        (two_operands mnemonic.now (register_text one) (register_text two) ++ codes ", ")
+        ) }
 {
     push_first(out, mnemonic, one)?;
     push_register(out, two)?;
@@ -84,7 +90,10 @@ fn push_three_registers(
     left: u8,
     right: u8,
 ) -> Result<(), NoMemory>
-    ensures { OnOk result (out.new.items ≡ out.old.items ++ three_operands mnemonic.now (register_text to) (register_text left) (register_text right)) }
+    ensures { OnOk result (
+        out.new.items ≡ out.old.items ++
+        three_operands mnemonic.now (register_text to) (register_text left) (register_text right)
+        ) }
 {
     push_two(out, mnemonic, to, left)?;
     push_register(out, right)
@@ -97,7 +106,10 @@ fn push_immediate(
     from: u8,
     imm: i32,
 ) -> Result<(), NoMemory>
-    ensures { OnOk result (out.new.items ≡ out.old.items ++ three_operands mnemonic.now (register_text to) (register_text from) (signed_decimal imm)) }
+    ensures { OnOk result (
+        out.new.items ≡ out.old.items ++
+        three_operands mnemonic.now (register_text to) (register_text from) (signed_decimal imm)
+        ) }
 {
     push_two(out, mnemonic, to, from)?;
     push_signed(out, imm)
@@ -110,7 +122,10 @@ fn push_access(
     imm: i32,
     base: u8,
 ) -> Result<(), NoMemory>
-    ensures { OnOk result (out.new.items ≡ out.old.items ++ two_operands mnemonic.now (register_text register) (address_text imm base)) }
+    ensures { OnOk result (
+        out.new.items ≡ out.old.items ++
+        two_operands mnemonic.now (register_text register) (address_text imm base)
+        ) }
 {
     push_first(out, mnemonic, register)?;
     push_address(out, imm, base)
@@ -123,21 +138,30 @@ fn push_branch(
     right: u8,
     target: u32,
 ) -> Result<(), NoMemory>
-    ensures { OnOk result (out.new.items ≡ out.old.items ++ three_operands mnemonic.now (register_text left) (register_text right) (label_name target)) }
+    ensures { OnOk result (
+        out.new.items ≡ out.old.items ++
+        three_operands mnemonic.now (register_text left) (register_text right) (label_name target)
+        ) }
 {
     push_two(out, mnemonic, left, right)?;
     push_label_name(out, target)
 }
 
 fn push_upper(out: &mut Vec<u8>, mnemonic: &str, to: u8, imm: u32) -> Result<(), NoMemory>
-    ensures { OnOk result (out.new.items ≡ out.old.items ++ two_operands mnemonic.now (register_text to) (decimal imm)) }
+    ensures { OnOk result (
+        out.new.items ≡ out.old.items ++
+        two_operands mnemonic.now (register_text to) (decimal imm)
+        ) }
 {
     push_first(out, mnemonic, to)?;
     push_number(out, imm as u64)
 }
 
 fn push_jump(out: &mut Vec<u8>, to: u8, target: u32) -> Result<(), NoMemory>
-    ensures { OnOk result (out.new.items ≡ out.old.items ++ two_operands (codes "jal") (register_text to) (label_name target)) }
+    ensures { OnOk result (
+        out.new.items ≡ out.old.items ++
+        two_operands (codes "jal") (register_text to) (label_name target)
+        ) }
 {
     push_first(out, "jal", to)?;
     push_label_name(out, target)

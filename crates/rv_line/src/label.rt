@@ -44,7 +44,8 @@ pub fn places(
     requires labels { AreLabels lines.now labelled.now }
     requires areas { areas ≤ 2 ^ 30 }
     requires count { length lines.now ≤ 2 ^ 30 }
-    ensures { IfOk result (λ places. places.items ≡ places_from (is_labelled lines.now) (areas + 7) 0 lines.now) }
+    ensures { IfOk result (λ places.
+        places.items ≡ places_from (is_labelled lines.now) (areas + 7) 0 lines.now) }
 {
     let mut places = Vec::with_capacity(alloc, lines.len())?;
     let mut row = areas as u32 + 7;

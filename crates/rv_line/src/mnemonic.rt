@@ -1,6 +1,12 @@
 // The spelling of the mnemonics.
 ghost use Rattle.std.specs.Prelude.{◌≡◌};
-ghost use Rattle.rv_line.specs.Mnemonics.{three_mnemonic, imm_mnemonic, load_mnemonic, store_mnemonic, branch_mnemonic};
+ghost use Rattle.rv_line.specs.Mnemonics.{
+  three_mnemonic,
+  imm_mnemonic,
+  load_mnemonic,
+  store_mnemonic,
+  branch_mnemonic,
+};
 
 use crate::line::{Branch, Imm, Load, Store, Three};
 

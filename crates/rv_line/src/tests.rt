@@ -197,7 +197,7 @@ fn rows_have_offsets_in_the_block(rt: HostRuntime) -> Result<(), NoMemory> {
     Ok(())
 }
 
-/// So many lines, each of which branches to the end of its own line.
+/// So many lines, each of which branches to the line behind it.
 fn many(alloc: Global, count: usize) -> Result<Vec<Line>, NoMemory>
     requires { count ≤ 2 ^ 30 }
     ensures { IfOk result (λ lines. (length lines.items ≡ count) × FitLines count 0 lines.items) }

@@ -1,10 +1,10 @@
-use Rattle.std.proofs.Common.{◌≡◌, ℕ, suc, ◌+◌, length, lit<, length-append, ◌<◌, ◌≤◌, ◌^◌, Bool, true, false, ◌&&◌, List, [], ◌∷◌, ◌++◌, refl, ap, ◌∙◌, arith}
+use Rattle.std.proofs.Common.{◌≡◌, ℕ, suc, length, lit<, length-append, ◌<◌, ◌≤◌, ◌^◌, Bool, true, false, ◌&&◌, List, ◌∷◌, ◌++◌, refl, ap, ◌∙◌, arith}
 use Rattle.std.specs.Fmt.{decimal}
 use Rattle.std.proofs.lemmas.Bool.Decides.{nat_tests}
 use Rattle.std.proofs.lemmas.Fmt.{length-decimal-le}
 use Rattle.shapes_core.specs.Name.{IsName, length-IsName}
-use Rattle.vector_sum.specs.Words.{is_separator, word, word_at}
-use Rattle.vector_sum.specs.Source.{Reads, is_extent, is_sound, source}
+use Rattle.vector_sum.specs.Words.{is_separator, word_at}
+use Rattle.vector_sum.specs.Source.{is_extent, is_sound, source}
 use Rattle.vector_sum.specs.declared.source.VectorSum.{VectorSum}
 use Rattle.vector_sum.proofs.WordLemmas.{IsWhole, decimal_whole, name_whole, word_front}
 

@@ -1,5 +1,11 @@
 // The program of the sum of two vectors: pointers that walk the three areas, in one flat loop.
-ghost use Rattle.std.specs.Prelude.{◌≡◌, ◌*◌, ◌+◌, ◌^◌, ◌<◌, ◌≤◌, ◌++◌, IfOk, IsTrue, OnOk, length, ℕ};
+ghost use Rattle.std.specs.Prelude.{◌≡◌, ◌*◌, ◌+◌, ◌^◌, ◌<◌, ◌≤◌, ◌++◌, IfOk, IsTrue, OnOk, length, pos, ℕ};
+ghost use Rattle.rv_line.specs.declared.line.Branch.{Branch};
+ghost use Rattle.rv_line.specs.declared.line.Imm.{Imm};
+ghost use Rattle.rv_line.specs.declared.line.Line.{Line};
+ghost use Rattle.rv_line.specs.declared.line.Load.{Load};
+ghost use Rattle.rv_line.specs.declared.line.Store.{Store};
+ghost use Rattle.rv_line.specs.declared.line.Three.{Three};
 ghost use Rattle.std.specs.List.{list_all};
 ghost use Rattle.rv_line.specs.Good.{IsStart, Serves};
 ghost use Rattle.rv_line.specs.Kinds.{is_base, is_free};
@@ -16,13 +22,14 @@ use rv_line::{Assembly, Branch, Header, Imm, Line, Load, Store, Three};
 use shapes_core::{Area, AreaKind, NoMemory, Shape};
 use std::alloc::Global;
 
-// The registers of the calling convention, and those that the program writes.
+// The registers of the calling convention.
 const ZERO: u8 = 0;
 
 const RETURN: u8 = 1;
 
 const BLOCK: u8 = 10;
 
+// The registers that the program writes: three pointers, the end of the first area, and two words.
 const LEFT: u8 = 5;
 
 const RIGHT: u8 = 6;
@@ -45,12 +52,7 @@ fn push_constant(lines: &mut Vec<Line>, to: u8, value: u32) -> Result<(), NoMemo
     ensures { OnOk result (lines.new.items ≡ lines.old.items ++ constant_lines to value) }
 {
     if value < 2048 {
-        lines.push(Line::Imm {
-            code: Imm::Addi,
-            to,
-            from: ZERO,
-            imm: value as i32,
-        })?;
+        lines.push(addi(to, ZERO, value as i32))?;
         return Ok(());
     }
     let upper = (value + 2048) / 4096;
@@ -65,83 +67,78 @@ fn push_constant(lines: &mut Vec<Line>, to: u8, value: u32) -> Result<(), NoMemo
     Ok(())
 }
 
+fn addi(to: u8, from: u8, imm: i32) -> Line
+    ensures { result ≡ Line.Imm Imm.Addi to from imm }
+{
+    Line::Imm {
+        code: Imm::Addi,
+        to,
+        from,
+        imm,
+    }
+}
+
+fn three(code: Three, to: u8, left: u8, right: u8) -> Line
+    ensures { result ≡ Line.Three code to left right }
+{
+    Line::Three {
+        code,
+        to,
+        left,
+        right,
+    }
+}
+
+fn ld(to: u8, base: u8) -> Line
+    ensures { result ≡ Line.Load Load.Ld to (pos 0) base }
+{
+    Line::Load {
+        code: Load::Ld,
+        to,
+        imm: 0,
+        base,
+    }
+}
+
+fn sd(from: u8, base: u8) -> Line
+    ensures { result ≡ Line.Store Store.Sd from (pos 0) base }
+{
+    Line::Store {
+        code: Store::Sd,
+        from,
+        imm: 0,
+        base,
+    }
+}
+
+fn bne(left: u8, right: u8, target: u32) -> Line
+    ensures { result ≡ Line.Branch Branch.Bne left right target }
+{
+    Line::Branch {
+        code: Branch::Bne,
+        left,
+        right,
+        target,
+    }
+}
+
 /// The lines from the pointers' start to the return. `top` is the number of the first line of the loop.
 fn push_walk(lines: &mut Vec<Line>, top: u32) -> Result<(), NoMemory>
     ensures { OnOk result (lines.new.items ≡ lines.old.items ++ walk_lines top) }
 {
     let walk = [
-        Line::Imm {
-            code: Imm::Addi,
-            to: LEFT,
-            from: BLOCK,
-            imm: 0,
-        },
-        Line::Three {
-            code: Three::Add,
-            to: RIGHT,
-            left: LEFT,
-            right: END,
-        },
-        Line::Three {
-            code: Three::Add,
-            to: SUM,
-            left: RIGHT,
-            right: END,
-        },
-        Line::Imm {
-            code: Imm::Addi,
-            to: END,
-            from: RIGHT,
-            imm: 0,
-        },
-        Line::Load {
-            code: Load::Ld,
-            to: VALUE,
-            imm: 0,
-            base: LEFT,
-        },
-        Line::Load {
-            code: Load::Ld,
-            to: OTHER,
-            imm: 0,
-            base: RIGHT,
-        },
-        Line::Three {
-            code: Three::Add,
-            to: VALUE,
-            left: VALUE,
-            right: OTHER,
-        },
-        Line::Store {
-            code: Store::Sd,
-            from: VALUE,
-            imm: 0,
-            base: SUM,
-        },
-        Line::Imm {
-            code: Imm::Addi,
-            to: LEFT,
-            from: LEFT,
-            imm: WORD,
-        },
-        Line::Imm {
-            code: Imm::Addi,
-            to: RIGHT,
-            from: RIGHT,
-            imm: WORD,
-        },
-        Line::Imm {
-            code: Imm::Addi,
-            to: SUM,
-            from: SUM,
-            imm: WORD,
-        },
-        Line::Branch {
-            code: Branch::Bne,
-            left: LEFT,
-            right: END,
-            target: top,
-        },
+        addi(LEFT, BLOCK, 0),
+        three(Three::Add, RIGHT, LEFT, END),
+        three(Three::Add, SUM, RIGHT, END),
+        addi(END, RIGHT, 0),
+        ld(VALUE, LEFT),
+        ld(OTHER, RIGHT),
+        three(Three::Add, VALUE, VALUE, OTHER),
+        sd(VALUE, SUM),
+        addi(LEFT, LEFT, WORD),
+        addi(RIGHT, RIGHT, WORD),
+        addi(SUM, SUM, WORD),
+        bne(LEFT, END, top),
         Line::Jalr {
             to: ZERO,
             imm: 0,

@@ -1,4 +1,4 @@
-use Rattle.std.proofs.Common.{◌*◌, ◌+◌, arith}
+use Rattle.std.proofs.Common.{arith}
 use Rattle.psi_top.proofs.program.text_for.Goals as goal
 
 pub returns-clause-built : goal.returns-clause-built

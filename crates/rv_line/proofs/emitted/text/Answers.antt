@@ -12,7 +12,7 @@ labels-requires-clause-targets c = rw c.lines-lines.ensures.value (targets_withi
 pub returns : goal.returns
 returns c =
     let parts = c.args.program.now in
-    let exact : c.push_lines.new.out.items ≡ emitted parts.header parts.areas parts.lines =
+    let exact : c.push_lines.new.out.items ≡ emitted parts =
     rw (
       c.in_ok-push_lines.ensures,
       c.in_ok-push_text.ensures,

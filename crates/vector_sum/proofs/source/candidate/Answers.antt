@@ -1,6 +1,5 @@
-use Rattle.std.proofs.Common.{◌≡◌, ℕ, List, Some, None, subst, sym, ap, ◌∙◌}
+use Rattle.std.proofs.Common.{◌≡◌, Some, subst, sym, ap, ◌∙◌}
 use Rattle.shapes_core.specs.Name.{IsName}
-use Rattle.vector_sum.specs.Source.{Reads, source}
 use Rattle.vector_sum.specs.Words.{word_at}
 use Rattle.vector_sum.proofs.SourceLemmas.{extent_at, extent_fits, left_at, right_at, same_parts, sum_at}
 use Rattle.vector_sum.proofs.source.candidate.Goals as goal

@@ -1,5 +1,4 @@
-use Rattle.std.proofs.Common.{◌≡◌, sym, ap, ◌∙◌, arith}
-use Rattle.vector_sum.specs.Source.{Reads, source}
+use Rattle.std.proofs.Common.{◌≡◌, sym, ◌∙◌, arith}
 use Rattle.vector_sum.proofs.source.recognise.Goals as goal
 
 pub returns-clause-read : goal.returns-clause-read

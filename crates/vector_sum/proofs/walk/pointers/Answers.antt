@@ -1,12 +1,11 @@
-use Rattle.std.proofs.Common.{◌≡◌, ◌≢◌, ℕ, ◌+◌, ◌*◌, ◌%◌, ◌^◌, ◌<◌, ◌≤◌, true, List, length, pos, refl, ap, ◌∙◌, arith}
+use Rattle.std.proofs.Common.{◌≡◌, ◌≢◌, ℕ, ◌+◌, ◌*◌, ◌%◌, ◌^◌, ◌<◌, ◌≤◌, true, List, length, pos, refl, ◌∙◌, arith}
 use Rattle.std.proofs.lemmas.Bool.Decides.{nat_tests}
-use Rattle.std.specs.Prelude.{IsTrue, if◌then◌else◌, nat_lt}
-use Rattle.std.specs.Int.{w64}
+use Rattle.std.specs.Prelude.{IsTrue, nat_lt}
 use Rattle.rv_line.specs.declared.line.Line.{Line}
 use Rattle.rv_line.specs.declared.line.Three.{Three}
 use Rattle.rv_line.specs.declared.line.Imm.{Imm}
 use Rattle.rv_line.specs.Good.{is_kept}
-use Rattle.rv_line.specs.Machine.{Config, Goes, IsAt, NoAccess, next_step, access_at, with_result, register_at, value_at, address_of}
+use Rattle.rv_line.specs.Machine.{Config, Goes, IsAt, NoAccess, next_step, access_at, with_result, register_at, address_of}
 use Rattle.rv_line.specs.Pieces.{StandsAt}
 use Rattle.rv_line.specs.Stops.{Along}
 use Rattle.vector_sum.specs.Kernel.{pointer_lines}

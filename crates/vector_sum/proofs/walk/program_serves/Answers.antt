@@ -1,19 +1,17 @@
-use Rattle.std.proofs.Common.{◌≡◌, ◌≢◌, ℕ, ◌+◌, ◌*◌, ◌/◌, ◌%◌, ◌^◌, ◌<◌, ◌≤◌, Bool, true, false, ℤ, Some, List, [], ◌∷◌, ◌++◌, length, pos, refl, sym, ap, ◌∙◌, arith, append_assoc, length-append}
+use Rattle.std.proofs.Common.{◌≡◌, ◌≢◌, ℕ, ◌+◌, ◌*◌, ◌/◌, ◌%◌, ◌^◌, ◌<◌, ◌≤◌, Bool, true, false, Some, List, [], ◌∷◌, ◌++◌, length, pos, refl, ◌∙◌, arith, append_assoc, length-append}
 use Rattle.std.proofs.lemmas.Bool.Decides.{nat_tests}
-use Rattle.std.proofs.Math.Nat.{zero-add}
 use Rattle.std.specs.Prelude.{IsTrue, if◌then◌else◌, nat_lt, slice_get, ◌-ℤ◌}
-use Rattle.std.specs.Int.{w64}
 use Rattle.rv_line.specs.declared.line.Line.{Line}
 use Rattle.rv_line.specs.declared.line.Line.TheVariants.{Imm as ImmLine, Lui}
 use Rattle.rv_line.specs.declared.line.Imm.TheVariants.{Addi, Addiw}
 use Rattle.rv_line.specs.Constants.{constant_lines, upper_of}
-use Rattle.rv_line.specs.Good.{IsStart, Serves, is_kept, input_values, output_values}
-use Rattle.rv_line.specs.Machine.{Config, Goes, IsAt, NoAccess, access_at, address_of, next_step, register_at, value_at, with_register}
+use Rattle.rv_line.specs.Good.{IsStart, Serves, is_kept}
+use Rattle.rv_line.specs.Machine.{Config, Goes, IsAt, address_of, next_step, register_at, with_register}
 use Rattle.rv_line.specs.Pieces.{SparesOthers, StandsAt}
 use Rattle.rv_line.specs.Stops.{Along}
 use Rattle.vector_sum.specs.Kernel.{areas_of, header_of, lines_of, pointer_lines, turn_lines, walk_lines}
 use Rattle.vector_sum.specs.Meaning.{demand}
-use Rattle.vector_sum.specs.Walk.{IsFineFor, IsWalking, is_fine_for, sum_at}
+use Rattle.vector_sum.specs.Walk.{IsFineFor, is_fine_for, sum_at}
 use Rattle.vector_sum.specs.declared.source.VectorSum.{VectorSum}
 use Rattle.vector_sum.proofs.SumLemmas.{outputs-demanded}
 use Rattle.vector_sum.proofs.walk.program_serves.Goals as goal

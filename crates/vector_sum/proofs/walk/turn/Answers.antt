@@ -1,4 +1,4 @@
-use Rattle.std.proofs.Common.{◌≡◌, ◌≢◌, ℕ, ◌+◌, ◌-◌, ◌*◌, ◌%◌, ◌^◌, ◌<◌, ◌≤◌, Bool, true, false, ◌∷◌, [], inl, inr, List, length, pos, refl, sym, ap, ◌∙◌, arith, Some}
+use Rattle.std.proofs.Common.{◌≡◌, ◌≢◌, ℕ, ◌+◌, ◌*◌, ◌%◌, ◌^◌, ◌<◌, ◌≤◌, true, false, ◌∷◌, [], inl, inr, List, length, pos, refl, ◌∙◌, arith, Some}
 use Rattle.std.proofs.lemmas.Bool.Decides.{nat_tests}
 use Rattle.std.proofs.lemmas.Bool.{cases_lt}
 use Rattle.std.proofs.Math.Nat.{mod-lt}
@@ -10,9 +10,9 @@ use Rattle.rv_line.specs.declared.line.Imm.{Imm}
 use Rattle.rv_line.specs.declared.line.Load.{Load}
 use Rattle.rv_line.specs.declared.line.Store.{Store}
 use Rattle.rv_line.specs.declared.line.Branch.{Branch}
-use Rattle.rv_line.specs.Effects.{is_taken, sum_of}
+use Rattle.rv_line.specs.Effects.{is_taken}
 use Rattle.rv_line.specs.Good.{is_input, is_kept}
-use Rattle.rv_line.specs.Machine.{Config, Goes, IsAt, IsAllowed, NoAccess, Loads, Stores, address, next_step, access_at, with_result, with_register, register_at, value_at, with_value, address_of}
+use Rattle.rv_line.specs.Machine.{Config, Goes, IsAt, NoAccess, Loads, Stores, address, next_step, access_at, with_result, register_at, value_at, with_value, address_of}
 use Rattle.rv_line.specs.Pieces.{StandsAt}
 use Rattle.rv_line.specs.Stops.{Along}
 use Rattle.shapes_core.specs.Shape.{total}

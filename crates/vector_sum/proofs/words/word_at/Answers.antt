@@ -1,4 +1,4 @@
-use Rattle.std.proofs.Common.{◌≡◌, ◌-◌, ◌+◌, sym, ap, ◌∙◌, arith}
+use Rattle.std.proofs.Common.{◌-◌, ◌+◌, sym, ap, ◌∙◌, arith}
 use Rattle.vector_sum.specs.Words.{word_at}
 use Rattle.vector_sum.proofs.WordLemmas.{word_passed}
 use Rattle.vector_sum.proofs.words.word_at.Goals as goal
