@@ -1,3 +1,4 @@
+pub mod Gamma
 pub mod Name
 pub mod Padded
 pub mod Shape

@@ -1,3 +1,4 @@
 pub mod SourceLemmas
+pub mod StartLemmas
 pub mod SumLemmas
 pub mod WordLemmas

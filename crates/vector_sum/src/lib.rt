@@ -4,8 +4,10 @@
 mod assembly;
 mod joined;
 mod source;
+mod starts;
 mod walk;
 mod words;
 
 pub use assembly::kernel;
 pub use source::{VectorSum, recognise, sources_are_short};
+pub use starts::starts_exist;
