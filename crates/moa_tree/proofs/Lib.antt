@@ -1,0 +1,7 @@
+pub mod Alone
+pub mod Determined
+pub mod Examples
+pub mod FitLemmas
+pub mod Levels
+pub mod PoolLemmas
+pub mod Wanted

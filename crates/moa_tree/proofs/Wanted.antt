@@ -1,0 +1,314 @@
+-- What is wanted next, from the left, at some front: a stack that shows of a list of lexemes that no text of the grammar begins with it.
+use Rattle.std.proofs.Common.{◌≡◌, ℕ, zero, suc, ◌+◌, Bool, true, false, List, [], ◌∷◌, ◌++◌, refl, sym, ap, ◌∙◌, subst, append_assoc, arith, pos}
+use Rattle.std.specs.Prelude.{◌&&◌, not, ◌==◌, ℤ, if◌then◌else◌}
+use Rattle.std.specs.List.{fold}
+use Rattle.std.proofs.lemmas.List.Sums.{fold-append}
+use Rattle.text_tokens.specs.declared.token.Sign.TheVariants as sign
+use Rattle.moa_tree.specs.Expr.{Expr, Item, Tree}
+use Rattle.moa_tree.specs.Readings.{Prefix, PrefixOfTwo, ReadsExpr, ReadsItem, ReadsItems, ReadsProgram, has_output, number_lexemes}
+use Rattle.moa_tree.specs.Refusals.{BeginsAt, BeginsWithin, IsFront, IsTooDeep, is_definition}
+use Rattle.moa_tree.specs.Vocabulary.{Lexeme, is_fold}
+
+pub data Want : Type 0 where
+  Version VersionNumber : Want
+  -- a statement, or the end where an output was seen; after an input's name also a number
+  Items : (seen : Bool) → Want
+  Extents : (seen : Bool) → Want
+  AName AnEqual : Want
+  -- an expression at this depth
+  AnExpr : (depth : ℕ) → Want
+  AClose AList Entries ANumber AFold AnOp : Want
+  Never : Want
+
+abbrev pub stuck : List Want
+stuck = Want.Never ∷ []
+
+abbrev pub on_name : List Want → Lexeme → List Want
+on_name wants (Lexeme.Name word) = wants
+on_name wants _ = stuck
+
+abbrev pub on_number : List Want → Lexeme → List Want
+on_number wants (Lexeme.Number value) = wants
+on_number wants _ = stuck
+
+abbrev pub on_version : List Want → Lexeme → List Want
+on_version wants Lexeme.Psi = wants
+on_version wants _ = stuck
+
+abbrev pub on_version_number : List Want → Lexeme → List Want
+on_version_number wants (Lexeme.Number (pos (suc zero))) = wants
+on_version_number wants _ = stuck
+
+abbrev pub on_equal : List Want → Lexeme → List Want
+on_equal wants (Lexeme.Sign sign.Equal) = wants
+on_equal wants _ = stuck
+
+abbrev pub on_close : List Want → Lexeme → List Want
+on_close wants (Lexeme.Sign sign.Close) = wants
+on_close wants _ = stuck
+
+abbrev pub on_list : List Want → Lexeme → List Want
+on_list wants (Lexeme.Sign sign.Less) = Want.Entries ∷ wants
+on_list wants _ = stuck
+
+abbrev pub on_entries : List Want → Lexeme → List Want
+on_entries wants (Lexeme.Number value) = Want.Entries ∷ wants
+on_entries wants (Lexeme.Sign sign.Greater) = wants
+on_entries wants _ = stuck
+
+abbrev pub on_op : List Want → Lexeme → List Want
+on_op wants (Lexeme.Binary op) = wants
+on_op wants _ = stuck
+
+abbrev pub on_fold : List Want → Lexeme → List Want
+on_fold wants (Lexeme.Binary op) = if is_fold op then wants else stuck
+on_fold wants _ = stuck
+
+abbrev pub on_items : Bool → List Want → Lexeme → List Want
+on_items seen wants Lexeme.In = Want.AName ∷ Want.Extents seen ∷ wants
+on_items seen wants Lexeme.Let = Want.AName ∷ Want.AnEqual ∷ Want.AnExpr 1 ∷ Want.Items seen ∷ wants
+on_items seen wants Lexeme.Out = Want.AName ∷ Want.AnEqual ∷ Want.AnExpr 1 ∷ Want.Items true ∷ wants
+on_items seen wants Lexeme.End = if seen then wants else stuck
+on_items seen wants _ = stuck
+
+abbrev pub on_extents : Bool → List Want → Lexeme → List Want
+on_extents seen wants (Lexeme.Number value) = Want.Extents seen ∷ wants
+on_extents seen wants other = on_items seen wants other
+
+abbrev pub on_expr : ℕ → List Want → Lexeme → List Want
+on_expr depth wants (Lexeme.Number value) = wants
+on_expr depth wants (Lexeme.Name word) = wants
+on_expr depth wants Lexeme.Iota = Want.ANumber ∷ wants
+on_expr depth wants (Lexeme.Sign sign.Open) = Want.AnExpr (suc depth) ∷ Want.AClose ∷ wants
+on_expr depth wants (Lexeme.Unary op) = Want.AnExpr (suc depth) ∷ wants
+on_expr depth wants (Lexeme.Binary op) = Want.AnExpr (suc depth) ∷ Want.AnExpr (suc depth) ∷ wants
+on_expr depth wants Lexeme.Psi = Want.AList ∷ Want.AnExpr (suc depth) ∷ wants
+on_expr depth wants Lexeme.Take = Want.AList ∷ Want.AnExpr (suc depth) ∷ wants
+on_expr depth wants Lexeme.Drop = Want.AList ∷ Want.AnExpr (suc depth) ∷ wants
+on_expr depth wants Lexeme.Permute = Want.AList ∷ Want.AnExpr (suc depth) ∷ wants
+on_expr depth wants Lexeme.Reshape = Want.AList ∷ Want.AnExpr (suc depth) ∷ wants
+on_expr depth wants Lexeme.Reverse = Want.AnExpr (suc depth) ∷ wants
+on_expr depth wants Lexeme.Transpose = Want.AnExpr (suc depth) ∷ wants
+on_expr depth wants Lexeme.Ravel = Want.AnExpr (suc depth) ∷ wants
+on_expr depth wants Lexeme.Rotate = Want.ANumber ∷ Want.AnExpr (suc depth) ∷ wants
+on_expr depth wants Lexeme.Cat = Want.AnExpr (suc depth) ∷ Want.AnExpr (suc depth) ∷ wants
+on_expr depth wants Lexeme.Outer = Want.AnOp ∷ Want.AnExpr (suc depth) ∷ Want.AnExpr (suc depth) ∷ wants
+on_expr depth wants Lexeme.Inner = Want.AFold ∷ Want.AnOp ∷ Want.AnExpr (suc depth) ∷ Want.AnExpr (suc depth) ∷ wants
+on_expr depth wants Lexeme.Reduce = Want.AFold ∷ Want.AnExpr (suc depth) ∷ wants
+on_expr depth wants Lexeme.Scan = Want.AFold ∷ Want.AnExpr (suc depth) ∷ wants
+on_expr depth wants _ = stuck
+
+abbrev pub next : List Want → Lexeme → List Want
+next [] lexeme = stuck
+next (Want.Version ∷ wants) lexeme = on_version wants lexeme
+next (Want.VersionNumber ∷ wants) lexeme = on_version_number wants lexeme
+next (Want.Items seen ∷ wants) lexeme = on_items seen wants lexeme
+next (Want.Extents seen ∷ wants) lexeme = on_extents seen wants lexeme
+next (Want.AName ∷ wants) lexeme = on_name wants lexeme
+next (Want.AnEqual ∷ wants) lexeme = on_equal wants lexeme
+next (Want.AnExpr depth ∷ wants) lexeme = on_expr depth wants lexeme
+next (Want.AClose ∷ wants) lexeme = on_close wants lexeme
+next (Want.AList ∷ wants) lexeme = on_list wants lexeme
+next (Want.Entries ∷ wants) lexeme = on_entries wants lexeme
+next (Want.ANumber ∷ wants) lexeme = on_number wants lexeme
+next (Want.AFold ∷ wants) lexeme = on_fold wants lexeme
+next (Want.AnOp ∷ wants) lexeme = on_op wants lexeme
+next (Want.Never ∷ wants) lexeme = stuck
+
+abbrev pub after : List Want → List Lexeme → List Want
+after wants lexemes = fold next wants lexemes
+
+abbrev pub at_start : List Want
+at_start = Want.Version ∷ Want.VersionNumber ∷ Want.Items false ∷ []
+
+pub chosen : (test : Bool) (wants others : List Want) → test ≡ true → (if test then wants else others) ≡ wants
+chosen true wants others h = refl
+chosen false wants others h = absurd (cc h)
+
+after_entries : (list : List ℤ) (wants : List Want) (rest : List Lexeme)
+    → after (Want.Entries ∷ wants) ((number_lexemes list ++ Lexeme.Sign sign.Greater ∷ []) ++ rest) ≡ after wants rest
+after_entries [] wants rest = refl
+after_entries (value ∷ others) wants rest = after_entries others wants rest
+
+after_extents : (list : List ℤ) (seen : Bool) (wants : List Want) (rest : List Lexeme)
+    → after (Want.Extents seen ∷ wants) (number_lexemes list ++ rest) ≡ after (Want.Extents seen ∷ wants) rest
+after_extents [] seen wants rest = refl
+after_extents (value ∷ others) seen wants rest = after_extents others seen wants rest
+
+after_prefix : (before : List Lexeme) (form : Expr → Expr) → Prefix before form → (depth : ℕ) (wants : List Want) (rest : List Lexeme)
+    → after (Want.AnExpr depth ∷ wants) (before ++ rest) ≡ after (Want.AnExpr (suc depth) ∷ wants) rest
+after_prefix before form (Prefix.unary op) depth wants rest = refl
+after_prefix before form (Prefix.psi list) depth wants rest = after_entries list (Want.AnExpr (suc depth) ∷ wants) rest
+after_prefix before form (Prefix.take list) depth wants rest = after_entries list (Want.AnExpr (suc depth) ∷ wants) rest
+after_prefix before form (Prefix.drop list) depth wants rest = after_entries list (Want.AnExpr (suc depth) ∷ wants) rest
+after_prefix before form (Prefix.permute list) depth wants rest = after_entries list (Want.AnExpr (suc depth) ∷ wants) rest
+after_prefix before form (Prefix.reshape list) depth wants rest = after_entries list (Want.AnExpr (suc depth) ∷ wants) rest
+after_prefix before form Prefix.reverse depth wants rest = refl
+after_prefix before form Prefix.transpose depth wants rest = refl
+after_prefix before form Prefix.ravel depth wants rest = refl
+after_prefix before form (Prefix.rotate by) depth wants rest = refl
+after_prefix before form (Prefix.reduce op h) depth wants rest = ap (λ list. after list rest) (chosen (is_fold op) (Want.AnExpr (suc depth) ∷ wants) stuck h)
+after_prefix before form (Prefix.scan op h) depth wants rest = ap (λ list. after list rest) (chosen (is_fold op) (Want.AnExpr (suc depth) ∷ wants) stuck h)
+
+after_prefix_of_two : (before : List Lexeme) (form : Expr → Expr → Expr) → PrefixOfTwo before form
+    → (depth : ℕ) (wants : List Want) (rest : List Lexeme)
+    → after (Want.AnExpr depth ∷ wants) (before ++ rest) ≡ after (Want.AnExpr (suc depth) ∷ Want.AnExpr (suc depth) ∷ wants) rest
+after_prefix_of_two before form (PrefixOfTwo.binary op) depth wants rest = refl
+after_prefix_of_two before form PrefixOfTwo.cat depth wants rest = refl
+after_prefix_of_two before form (PrefixOfTwo.outer op) depth wants rest = refl
+after_prefix_of_two before form (PrefixOfTwo.inner f op h) depth wants rest =
+    ap (λ list. after list (Lexeme.Binary op ∷ rest)) (chosen (is_fold f) (Want.AnOp ∷ Want.AnExpr (suc depth) ∷ Want.AnExpr (suc depth) ∷ wants) stuck h)
+
+pub after_expr : (levels : ℕ) (lexemes : List Lexeme) (expr : Expr) → ReadsExpr levels lexemes expr
+    → (depth : ℕ) (wants : List Want) (rest : List Lexeme) → after (Want.AnExpr depth ∷ wants) (lexemes ++ rest) ≡ after wants rest
+after_expr levels lexemes expr (ReadsExpr.number l value) depth wants rest = refl
+after_expr levels lexemes expr (ReadsExpr.name l word) depth wants rest = refl
+after_expr levels lexemes expr (ReadsExpr.iota l extent) depth wants rest = refl
+after_expr levels lexemes expr (ReadsExpr.parentheses l inner e reads) depth wants rest =
+    ap (after (Want.AnExpr (suc depth) ∷ Want.AClose ∷ wants)) (append_assoc inner (Lexeme.Sign sign.Close ∷ []) rest)
+    ∙ after_expr l inner e reads (suc depth) (Want.AClose ∷ wants) (Lexeme.Sign sign.Close ∷ rest)
+after_expr levels lexemes expr (ReadsExpr.one l before of form e head reads) depth wants rest =
+    ap (after (Want.AnExpr depth ∷ wants)) (append_assoc before of rest)
+    ∙ after_prefix before form head depth wants (of ++ rest)
+    ∙ after_expr l of e reads (suc depth) wants rest
+after_expr levels lexemes expr (ReadsExpr.two l before first second form left right head reads reads2) depth wants rest =
+    ap (after (Want.AnExpr depth ∷ wants)) (append_assoc before (first ++ second) rest ∙ ap (λ list. before ++ list) (append_assoc first second rest))
+    ∙ after_prefix_of_two before form head depth wants (first ++ (second ++ rest))
+    ∙ after_expr l first left reads (suc depth) (Want.AnExpr (suc depth) ∷ wants) (second ++ rest)
+    ∙ after_expr l second right reads2 (suc depth) wants rest
+
+-- what stands after statements: another one, or the end
+abbrev pub ends_items : Lexeme → Bool
+ends_items Lexeme.In = true
+ends_items Lexeme.Let = true
+ends_items Lexeme.Out = true
+ends_items Lexeme.End = true
+ends_items _ = false
+
+-- whether an output was seen, after these statements too
+abbrev pub seen_after : Bool → Tree → Bool
+seen_after seen [] = seen
+seen_after seen (Item.Output name of ∷ others) = seen_after true others
+seen_after seen (_ ∷ others) = seen_after seen others
+
+seen_stays : (tree : Tree) → seen_after true tree ≡ true
+seen_stays [] = refl
+seen_stays (Item.Input name extents ∷ others) = seen_stays others
+seen_stays (Item.Let name of ∷ others) = seen_stays others
+seen_stays (Item.Output name of ∷ others) = seen_stays others
+
+output_seen : (tree : Tree) → has_output tree ≡ true → seen_after false tree ≡ true
+output_seen [] h = h
+output_seen (Item.Input name extents ∷ others) h = output_seen others h
+output_seen (Item.Let name of ∷ others) h = output_seen others h
+output_seen (Item.Output name of ∷ others) h = seen_stays others
+
+-- no number follows the statement
+extents_end : (last : Lexeme) → ends_items last ≡ true → (seen : Bool) (wants : List Want) (rest : List Lexeme)
+    → after (Want.Extents seen ∷ wants) (last ∷ rest) ≡ after (Want.Items seen ∷ wants) (last ∷ rest)
+extents_end (Lexeme.Number value) h seen wants rest = absurd (cc h)
+extents_end _ h seen wants rest = refl
+
+extents_items : (levels : ℕ) (lexemes : List Lexeme) (tree : Tree) → ReadsItems levels lexemes tree
+    → (last : Lexeme) → ends_items last ≡ true → (seen : Bool) (wants : List Want) (rest : List Lexeme)
+    → after (Want.Extents seen ∷ wants) (lexemes ++ last ∷ rest) ≡ after (Want.Items seen ∷ wants) (lexemes ++ last ∷ rest)
+extents_items levels lexemes tree (ReadsItems.none l) last h seen wants rest = extents_end last h seen wants rest
+extents_items levels lexemes tree (ReadsItems.more l first others item items (ReadsItem.input k name extents) reads) last h seen wants rest = refl
+extents_items levels lexemes tree (ReadsItems.more l first others item items (ReadsItem.«let» k name of e reads_e) reads) last h seen wants rest = refl
+extents_items levels lexemes tree (ReadsItems.more l first others item items (ReadsItem.output k name of e reads_e) reads) last h seen wants rest = refl
+
+pub after_items : (levels : ℕ) (lexemes : List Lexeme) (tree : Tree) → ReadsItems levels lexemes tree
+    → (last : Lexeme) → ends_items last ≡ true → (seen : Bool) (wants : List Want) (rest : List Lexeme)
+    → after (Want.Items seen ∷ wants) (lexemes ++ last ∷ rest) ≡ after (Want.Items (seen_after seen tree) ∷ wants) (last ∷ rest)
+after_items levels lexemes tree (ReadsItems.none l) last h seen wants rest = refl
+after_items levels lexemes tree (ReadsItems.more l first others item items (ReadsItem.input k name extents) reads) last h seen wants rest =
+    ap (after (Want.Extents seen ∷ wants)) (append_assoc (number_lexemes extents) others (last ∷ rest))
+    ∙ after_extents extents seen wants (others ++ last ∷ rest)
+    ∙ extents_items l others items reads last h seen wants rest
+    ∙ after_items l others items reads last h seen wants rest
+after_items levels lexemes tree (ReadsItems.more l first others item items (ReadsItem.«let» k name of e reads_e) reads) last h seen wants rest =
+    ap (after (Want.AnExpr 1 ∷ Want.Items seen ∷ wants)) (append_assoc of others (last ∷ rest))
+    ∙ after_expr l of e reads_e 1 (Want.Items seen ∷ wants) (others ++ last ∷ rest)
+    ∙ after_items l others items reads last h seen wants rest
+after_items levels lexemes tree (ReadsItems.more l first others item items (ReadsItem.output k name of e reads_e) reads) last h seen wants rest =
+    ap (after (Want.AnExpr 1 ∷ Want.Items true ∷ wants)) (append_assoc of others (last ∷ rest))
+    ∙ after_expr l of e reads_e 1 (Want.Items true ∷ wants) (others ++ last ∷ rest)
+    ∙ after_items l others items reads last h true wants rest
+
+-- each text of the grammar is accepted
+pub after_program : (levels : ℕ) (lexemes : List Lexeme) (tree : Tree) → ReadsProgram levels lexemes tree → after at_start lexemes ≡ []
+after_program levels lexemes tree (ReadsProgram.program l statements items reads h) =
+    after_items l statements items reads Lexeme.End refl false [] []
+    ∙ chosen (seen_after false items) [] stuck (output_seen items h)
+
+after_stuck : (lexemes : List Lexeme) → after stuck lexemes ≡ stuck
+after_stuck [] = refl
+after_stuck (lexeme ∷ others) = after_stuck others
+
+not_empty : stuck ≡ [] → ⊥
+not_empty h = cc h
+
+-- no text begins with these
+pub no_front : (lexemes : List Lexeme) → after at_start lexemes ≡ stuck → IsFront lexemes → ⊥
+no_front lexemes h (IsFront.begins levels before rest tree reads) =
+    not_empty (sym (fold-append next at_start before rest ∙ ap (λ wants. after wants rest) h ∙ after_stuck rest) ∙ after_program levels (before ++ rest) tree reads)
+
+-- the depth of the expression that is wanted, or 0
+abbrev pub wanted_depth : List Want → ℕ
+wanted_depth (Want.AnExpr depth ∷ wants) = depth
+wanted_depth _ = 0
+
+depth_within : (deeper : ℕ) (lexemes : List Lexeme) → BeginsWithin deeper lexemes → (depth : ℕ) (wants : List Want)
+    → wanted_depth (after (Want.AnExpr depth ∷ wants) lexemes) ≡ depth + deeper
+depth_within deeper lexemes BeginsWithin.here depth wants = omega arith
+depth_within deeper lexemes (BeginsWithin.parentheses d inner begins) depth wants =
+    depth_within d inner begins (suc depth) (Want.AClose ∷ wants) ∙ omega arith
+depth_within deeper lexemes (BeginsWithin.one d before inner form head begins) depth wants =
+    ap wanted_depth (after_prefix before form head depth wants inner)
+    ∙ depth_within d inner begins (suc depth) wants ∙ omega arith
+depth_within deeper lexemes (BeginsWithin.first d before inner form head begins) depth wants =
+    ap wanted_depth (after_prefix_of_two before form head depth wants inner)
+    ∙ depth_within d inner begins (suc depth) (Want.AnExpr (suc depth) ∷ wants) ∙ omega arith
+depth_within deeper lexemes (BeginsWithin.second d levels before left inner form expr head reads begins) depth wants =
+    ap wanted_depth (after_prefix_of_two before form head depth wants (left ++ inner)
+    ∙ after_expr levels left expr reads (suc depth) (Want.AnExpr (suc depth) ∷ wants) inner)
+    ∙ depth_within d inner begins (suc depth) wants ∙ omega arith
+
+depth_statement : (word : Lexeme) → is_definition word ≡ true → (name : List ℕ) (deeper : ℕ) (inner : List Lexeme) → BeginsWithin deeper inner
+    → (seen : Bool) → wanted_depth (after (Want.Items seen ∷ []) (word ∷ Lexeme.Name name ∷ Lexeme.Sign sign.Equal ∷ inner)) ≡ suc deeper
+depth_statement Lexeme.Let h name deeper inner begins seen = depth_within deeper inner begins 1 (Want.Items seen ∷ []) ∙ omega arith
+depth_statement Lexeme.Out h name deeper inner begins seen = depth_within deeper inner begins 1 (Want.Items true ∷ []) ∙ omega arith
+depth_statement _ h name deeper inner begins seen = absurd (cc h)
+
+ends_definition : (word : Lexeme) → is_definition word ≡ true → ends_items word ≡ true
+ends_definition Lexeme.Let h = refl
+ends_definition Lexeme.Out h = refl
+ends_definition _ h = absurd (cc h)
+
+pub depth_at : (depth : ℕ) (lexemes : List Lexeme) → BeginsAt depth lexemes → wanted_depth (after at_start lexemes) ≡ depth
+depth_at depth lexemes (BeginsAt.statement levels deeper statements tree word name inner reads h begins) =
+    ap wanted_depth (after_items levels statements tree reads word (ends_definition word h) false [] (Lexeme.Name name ∷ Lexeme.Sign sign.Equal ∷ inner))
+    ∙ depth_statement word h name deeper inner begins (seen_after false tree)
+
+-- none of these is an expression that stands too deep
+abbrev pub is_shallow : List Want → List Lexeme → Bool
+is_shallow wants [] = true
+is_shallow wants (lexeme ∷ others) = not (wanted_depth wants == 129) && is_shallow (next wants lexeme) others
+
+both : (a b : Bool) → (a && b) ≡ true → (a ≡ true) × (b ≡ true)
+both true b h = (refl, h)
+both false b h = absurd (cc h)
+
+shallow_at : (earlier : List Lexeme) (lexeme : Lexeme) (later : List Lexeme) (wants : List Want)
+    → is_shallow wants (earlier ++ lexeme ∷ later) ≡ true → wanted_depth (after wants earlier) ≡ 129 → ⊥
+shallow_at [] lexeme later wants h deep =
+    let here : not (wanted_depth wants == 129) ≡ true = (both (not (wanted_depth wants == 129)) _ h).0 in
+    let there : not (129 == 129) ≡ true = subst (λ depth. not (depth == 129) ≡ true) deep here in
+    cc there
+shallow_at (first ∷ others) lexeme later wants h deep =
+    shallow_at others lexeme later (next wants first) (both (not (wanted_depth wants == 129)) _ h).1 deep
+
+pub not_deep : (lexemes : List Lexeme) → is_shallow at_start lexemes ≡ true
+    → (earlier : List Lexeme) (lexeme : Lexeme) (later : List Lexeme) → lexemes ≡ earlier ++ lexeme ∷ later → IsTooDeep earlier → ⊥
+not_deep lexemes h earlier lexeme later e deep =
+    shallow_at earlier lexeme later at_start (ap (is_shallow at_start) (sym e) ∙ h) (depth_at 129 earlier deep)

@@ -1,0 +1,14 @@
+pub mod Axes
+pub mod Canonical
+pub mod Denotation
+pub mod Examples
+pub mod Expr
+pub mod Folds
+pub mod Operators
+pub mod Pool
+pub mod Pools
+pub mod Readings
+pub mod Refusals
+pub mod ShapeOf
+pub mod Values
+pub mod Vocabulary

@@ -1,0 +1,60 @@
+-- What a program keeps of its pools. This project's own.
+use Rattle.std.specs.Prelude.{◌≡◌, ℕ, ◌+◌, ◌^◌, ◌<◌, ◌≤◌, ℤ, List, [], ◌∷◌, length, All}
+use Rattle.std.specs.List.{AllByRecursion}
+use Rattle.text_tokens.specs.declared.token.Position.{Position}
+use Rattle.moa_tree.specs.declared.tree.Node.{Node}
+use Rattle.moa_tree.specs.declared.tree.Node.TheVariants as node
+use Rattle.moa_tree.specs.declared.tree.Numbers.{Numbers}
+use Rattle.moa_tree.specs.declared.tree.Statement.{Statement}
+use Rattle.moa_tree.specs.declared.tree.Statement.TheVariants as statement
+use Rattle.moa_tree.specs.Canonical.{canonical}
+use Rattle.moa_tree.specs.Expr.{Tree}
+use Rattle.moa_tree.specs.Pool.{IsOrdered, program_tree}
+use Rattle.moa_tree.specs.Readings.{Reads}
+
+-- the nodes with the position of each, the numbers of the lists, and the statements
+pub record Pools : Type 0 where
+  pub nodes : List Node
+  pub positions : List Position
+  pub numbers : List ℤ
+  pub statements : List Statement
+
+-- the program for which they stand
+abbrev pub tree_of : Pools → Tree
+tree_of pools = program_tree pools.numbers pools.nodes pools.statements
+
+-- the lists of a node
+abbrev pub lists_of : Node → List Numbers
+lists_of (node.Psi list of) = list ∷ []
+lists_of (node.Take list of) = list ∷ []
+lists_of (node.Drop list of) = list ∷ []
+lists_of (node.Permute list of) = list ∷ []
+lists_of (node.Reshape list of) = list ∷ []
+lists_of _ = []
+
+-- the nodes and the lists of a statement
+abbrev pub nodes_of : Statement → List ℕ
+nodes_of (statement.Input name extents at) = []
+nodes_of (statement.Name name number at) = number ∷ []
+nodes_of (statement.Output name number at) = number ∷ []
+
+abbrev pub extents_of : Statement → List Numbers
+extents_of (statement.Input name extents at) = extents ∷ []
+extents_of (statement.Name name number at) = []
+extents_of (statement.Output name number at) = []
+
+-- numbers that lie in the pool
+abbrev pub AreThere : List ℤ → Numbers → Type 0
+AreThere pool numbers = numbers.start + numbers.count ≤ length pool
+
+-- Each node has a position, operands stand before their node, what is named is there, and the canonical text of the program reads as it.
+pub record IsProgram (pools : Pools) : Type 0 where
+  pub placed : length pools.positions ≡ length pools.nodes
+  pub ordered : IsOrdered pools.nodes
+  pub lists_there : All (λ n. AllByRecursion (AreThere pools.numbers) (lists_of n)) pools.nodes
+  pub nodes_there : All (λ s. AllByRecursion (λ number. number < length pools.nodes) (nodes_of s)) pools.statements
+  pub extents_there : All (λ s. AllByRecursion (AreThere pools.numbers) (extents_of s)) pools.statements
+  pub reads : Reads (canonical (tree_of pools)) (tree_of pools)
+  pub few_nodes : length pools.nodes ≤ 2 ^ 30
+  pub few_numbers : length pools.numbers ≤ 2 ^ 30
+  pub few_statements : length pools.statements ≤ 2 ^ 30

@@ -1,0 +1,23 @@
+// Laws of readings and refusals: no body runs.
+ghost use Rattle.std.specs.Prelude.{◌≡◌, ℕ, List};
+ghost use Rattle.text_tokens.specs.declared.token.Position.{Position};
+ghost use Rattle.moa_tree.specs.Expr.{Tree};
+ghost use Rattle.moa_tree.specs.Readings.{Reads};
+ghost use Rattle.moa_tree.specs.Refusals.{IsRefused};
+
+/// A text has at most one reading.
+pub fn one_reading()
+    ensures { (text : List ℕ) (first second : Tree) → Reads text first → Reads text second → first ≡ second }
+{}
+
+/// A text is refused at one position at most, with one cause.
+pub fn one_refusal()
+    ensures { (text : List ℕ) (first second : Position) (cause other : ℕ)
+        → IsRefused text first cause → IsRefused text second other → (first ≡ second) × (cause ≡ other) }
+{}
+
+/// A text that has a reading is not refused.
+pub fn never_both()
+    ensures { (text : List ℕ) (tree : Tree) (position : Position) (cause : ℕ)
+        → Reads text tree → IsRefused text position cause → ⊥ }
+{}

@@ -1,0 +1,113 @@
+// Programs as pools: nodes and numbers that are named by where they stand.
+use crate::operator::{Op, Unary};
+use shapes_core::Name;
+use text_tokens::Position;
+
+/// Some numbers of a pool, one behind the other.
+#[derive(Clone, Copy)]
+pub struct Numbers {
+    pub start: u32,
+    pub count: u32,
+}
+
+/// An expression, whose operands are nodes of the same pool with smaller numbers.
+#[derive(Clone, Copy)]
+pub enum Node {
+    Number(i64),
+    Use(Name),
+    Iota(i64),
+    One {
+        op: Unary,
+        of: u32,
+    },
+    Two {
+        op: Op,
+        left: u32,
+        right: u32,
+    },
+    Psi {
+        list: Numbers,
+        of: u32,
+    },
+    Take {
+        list: Numbers,
+        of: u32,
+    },
+    Drop {
+        list: Numbers,
+        of: u32,
+    },
+    Reverse {
+        of: u32,
+    },
+    Rotate {
+        by: i64,
+        of: u32,
+    },
+    Transpose {
+        of: u32,
+    },
+    Permute {
+        list: Numbers,
+        of: u32,
+    },
+    Cat {
+        left: u32,
+        right: u32,
+    },
+    Reshape {
+        list: Numbers,
+        of: u32,
+    },
+    Ravel {
+        of: u32,
+    },
+    Outer {
+        op: Op,
+        left: u32,
+        right: u32,
+    },
+    Inner {
+        fold: Op,
+        op: Op,
+        left: u32,
+        right: u32,
+    },
+    Reduce {
+        fold: Op,
+        of: u32,
+    },
+    Scan {
+        fold: Op,
+        of: u32,
+    },
+}
+
+/// A statement, with the position of its name.
+#[derive(Clone, Copy)]
+pub enum Statement {
+    Input {
+        name: Name,
+        extents: Numbers,
+        at: Position,
+    },
+    Name {
+        name: Name,
+        node: u32,
+        at: Position,
+    },
+    Output {
+        name: Name,
+        node: u32,
+        at: Position,
+    },
+}
+
+/// What is computed and stored as one array: an output, or a scan, which has an operator. `area` is the
+/// number of its area in the layout, and `node` its expression, of a scan the operand.
+#[derive(Clone, Copy)]
+pub struct Job {
+    pub area: u32,
+    pub node: u32,
+    pub fold: Option<Op>,
+}
