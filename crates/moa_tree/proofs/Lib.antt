@@ -4,4 +4,5 @@ pub mod Examples
 pub mod FitLemmas
 pub mod Levels
 pub mod PoolLemmas
+pub mod Printed
 pub mod Wanted

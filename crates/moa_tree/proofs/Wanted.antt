@@ -295,7 +295,7 @@ abbrev pub is_shallow : List Want → List Lexeme → Bool
 is_shallow wants [] = true
 is_shallow wants (lexeme ∷ others) = not (wanted_depth wants == 129) && is_shallow (next wants lexeme) others
 
-both : (a b : Bool) → (a && b) ≡ true → (a ≡ true) × (b ≡ true)
+pub both : (a b : Bool) → (a && b) ≡ true → (a ≡ true) × (b ≡ true)
 both true b h = (refl, h)
 both false b h = absurd (cc h)
 

@@ -1,45 +1,94 @@
--- The canonical text of a program: one line a statement, no parentheses, numbers in shortest decimal form. This project's own.
-use Rattle.std.specs.Prelude.{ℕ, List, [], ◌∷◌, ◌++◌, map, codes, ℤ}
-use Rattle.std.specs.Fmt.{signed_decimal}
-use Rattle.std.specs.List.{flat_map, join_by}
+-- The canonical text of a program: one line a statement, no parentheses, a blank between two lexemes but after `<` and before `>`.
+-- This project's own.
+use Rattle.std.specs.Prelude.{ℕ, zero, suc, ◌&&◌, not, IsTrue, FitsSigned, List, [], ◌∷◌, ◌++◌, codes, pos}
+use Rattle.std.specs.Int.{w64}
+use Rattle.std.specs.List.{AllByRecursion, flat_map}
+use Rattle.shapes_core.specs.Name.{is_name}
+use Rattle.text_tokens.specs.declared.token.Sign.TheVariants as sign
 use Rattle.moa_tree.specs.Expr.{Expr, Item, Tree}
-use Rattle.moa_tree.specs.Vocabulary.{op_word, unary_word}
+use Rattle.moa_tree.specs.Readings.{deepest, list_lexemes, number_lexemes}
+use Rattle.moa_tree.specs.Vocabulary.{Lexeme, is_fold, is_reserved, spelling}
 
--- words in a row, a blank between each two
-abbrev pub spaced : List (List ℕ) → List ℕ
-spaced words = join_by (λ word. word) (codes " ") words
+-- an expression without parentheses
+abbrev pub expr_lexemes : Expr → List Lexeme
+expr_lexemes (Expr.Number value) = Lexeme.Number value ∷ []
+expr_lexemes (Expr.Use name) = Lexeme.Name name ∷ []
+expr_lexemes (Expr.Iota extent) = Lexeme.Iota ∷ Lexeme.Number extent ∷ []
+expr_lexemes (Expr.One op of) = Lexeme.Unary op ∷ expr_lexemes of
+expr_lexemes (Expr.Two op left right) = Lexeme.Binary op ∷ (expr_lexemes left ++ expr_lexemes right)
+expr_lexemes (Expr.Psi list of) = Lexeme.Psi ∷ (list_lexemes list ++ expr_lexemes of)
+expr_lexemes (Expr.Take list of) = Lexeme.Take ∷ (list_lexemes list ++ expr_lexemes of)
+expr_lexemes (Expr.Drop list of) = Lexeme.Drop ∷ (list_lexemes list ++ expr_lexemes of)
+expr_lexemes (Expr.Reverse of) = Lexeme.Reverse ∷ expr_lexemes of
+expr_lexemes (Expr.Rotate by of) = Lexeme.Rotate ∷ Lexeme.Number by ∷ expr_lexemes of
+expr_lexemes (Expr.Transpose of) = Lexeme.Transpose ∷ expr_lexemes of
+expr_lexemes (Expr.Permute list of) = Lexeme.Permute ∷ (list_lexemes list ++ expr_lexemes of)
+expr_lexemes (Expr.Cat left right) = Lexeme.Cat ∷ (expr_lexemes left ++ expr_lexemes right)
+expr_lexemes (Expr.Reshape list of) = Lexeme.Reshape ∷ (list_lexemes list ++ expr_lexemes of)
+expr_lexemes (Expr.Ravel of) = Lexeme.Ravel ∷ expr_lexemes of
+expr_lexemes (Expr.Outer op left right) = Lexeme.Outer ∷ Lexeme.Binary op ∷ (expr_lexemes left ++ expr_lexemes right)
+expr_lexemes (Expr.Inner fold op left right) = Lexeme.Inner ∷ Lexeme.Binary fold ∷ Lexeme.Binary op ∷ (expr_lexemes left ++ expr_lexemes right)
+expr_lexemes (Expr.Reduce fold of) = Lexeme.Reduce ∷ Lexeme.Binary fold ∷ expr_lexemes of
+expr_lexemes (Expr.Scan fold of) = Lexeme.Scan ∷ Lexeme.Binary fold ∷ expr_lexemes of
 
-abbrev pub list_text : List ℤ → List ℕ
-list_text list = codes "<" ++ spaced (map signed_decimal list) ++ codes ">"
+abbrev pub item_lexemes : Item → List Lexeme
+item_lexemes (Item.Input name extents) = Lexeme.In ∷ Lexeme.Name name ∷ number_lexemes extents
+item_lexemes (Item.Let name of) = Lexeme.Let ∷ Lexeme.Name name ∷ Lexeme.Sign sign.Equal ∷ expr_lexemes of
+item_lexemes (Item.Output name of) = Lexeme.Out ∷ Lexeme.Name name ∷ Lexeme.Sign sign.Equal ∷ expr_lexemes of
 
-abbrev pub expr_text : Expr → List ℕ
-expr_text (Expr.Number value) = signed_decimal value
-expr_text (Expr.Use name) = name
-expr_text (Expr.Iota extent) = spaced (codes "iota" ∷ signed_decimal extent ∷ [])
-expr_text (Expr.One op of) = spaced (unary_word op ∷ expr_text of ∷ [])
-expr_text (Expr.Two op left right) = spaced (op_word op ∷ expr_text left ∷ expr_text right ∷ [])
-expr_text (Expr.Psi list of) = spaced (codes "psi" ∷ list_text list ∷ expr_text of ∷ [])
-expr_text (Expr.Take list of) = spaced (codes "take" ∷ list_text list ∷ expr_text of ∷ [])
-expr_text (Expr.Drop list of) = spaced (codes "drop" ∷ list_text list ∷ expr_text of ∷ [])
-expr_text (Expr.Reverse of) = spaced (codes "reverse" ∷ expr_text of ∷ [])
-expr_text (Expr.Rotate by of) = spaced (codes "rotate" ∷ signed_decimal by ∷ expr_text of ∷ [])
-expr_text (Expr.Transpose of) = spaced (codes "transpose" ∷ expr_text of ∷ [])
-expr_text (Expr.Permute list of) = spaced (codes "permute" ∷ list_text list ∷ expr_text of ∷ [])
-expr_text (Expr.Cat left right) = spaced (codes "cat" ∷ expr_text left ∷ expr_text right ∷ [])
-expr_text (Expr.Reshape list of) = spaced (codes "reshape" ∷ list_text list ∷ expr_text of ∷ [])
-expr_text (Expr.Ravel of) = spaced (codes "ravel" ∷ expr_text of ∷ [])
-expr_text (Expr.Outer op left right) = spaced (codes "outer" ∷ op_word op ∷ expr_text left ∷ expr_text right ∷ [])
-expr_text (Expr.Inner fold op left right) = spaced (codes "inner" ∷ op_word fold ∷ op_word op ∷ expr_text left ∷ expr_text right ∷ [])
-expr_text (Expr.Reduce fold of) = spaced (codes "reduce" ∷ op_word fold ∷ expr_text of ∷ [])
-expr_text (Expr.Scan fold of) = spaced (codes "scan" ∷ op_word fold ∷ expr_text of ∷ [])
+-- what stands between two lexemes of a line
+abbrev pub between : Lexeme → Lexeme → List ℕ
+between (Lexeme.Sign sign.Less) next = []
+between _ (Lexeme.Sign sign.Greater) = []
+between _ _ = codes " "
 
-abbrev pub item_text : Item → List ℕ
-item_text (Item.Input name extents) = spaced (codes "in" ∷ name ∷ map signed_decimal extents)
-item_text (Item.Let name of) = spaced (codes "let" ∷ name ∷ codes "=" ∷ expr_text of ∷ [])
-item_text (Item.Output name of) = spaced (codes "out" ∷ name ∷ codes "=" ∷ expr_text of ∷ [])
-
-abbrev pub line : List ℕ → List ℕ
-line text = text ++ 10 ∷ []
+abbrev pub line : List Lexeme → List ℕ
+line [] = codes "\n"
+line (last ∷ []) = spelling last ++ codes "\n"
+line (first ∷ second ∷ others) = spelling first ++ (between first second ++ line (second ∷ others))
 
 abbrev pub canonical : Tree → List ℕ
-canonical tree = line (codes "psi 1") ++ flat_map (λ item. line (item_text item)) tree
+canonical tree = line (Lexeme.Psi ∷ Lexeme.Number (pos 1) ∷ []) ++ flat_map (λ item. line (item_lexemes item)) tree
+
+-- a lexeme that has a spelling: a name is a word that is not reserved, a number has 64 bits
+abbrev pub IsSpelled : Lexeme → Type 0
+IsSpelled (Lexeme.Name name) = IsTrue (is_name name && not (is_reserved name))
+IsSpelled (Lexeme.Number value) = FitsSigned w64 value
+IsSpelled Lexeme.Malformed = ⊥
+IsSpelled Lexeme.OutOfRange = ⊥
+IsSpelled Lexeme.LongWord = ⊥
+IsSpelled Lexeme.End = ⊥
+IsSpelled _ = Unit {0}
+
+-- an expression that stands within so many levels, and folds by operators that fold
+abbrev pub IsBuilt : ℕ → Expr → Type 0
+IsBuilt zero expr = ⊥
+IsBuilt (suc levels) (Expr.Number value) = Unit {0}
+IsBuilt (suc levels) (Expr.Use name) = Unit {0}
+IsBuilt (suc levels) (Expr.Iota extent) = Unit {0}
+IsBuilt (suc levels) (Expr.One op of) = IsBuilt levels of
+IsBuilt (suc levels) (Expr.Two op left right) = IsBuilt levels left × IsBuilt levels right
+IsBuilt (suc levels) (Expr.Psi list of) = IsBuilt levels of
+IsBuilt (suc levels) (Expr.Take list of) = IsBuilt levels of
+IsBuilt (suc levels) (Expr.Drop list of) = IsBuilt levels of
+IsBuilt (suc levels) (Expr.Reverse of) = IsBuilt levels of
+IsBuilt (suc levels) (Expr.Rotate by of) = IsBuilt levels of
+IsBuilt (suc levels) (Expr.Transpose of) = IsBuilt levels of
+IsBuilt (suc levels) (Expr.Permute list of) = IsBuilt levels of
+IsBuilt (suc levels) (Expr.Cat left right) = IsBuilt levels left × IsBuilt levels right
+IsBuilt (suc levels) (Expr.Reshape list of) = IsBuilt levels of
+IsBuilt (suc levels) (Expr.Ravel of) = IsBuilt levels of
+IsBuilt (suc levels) (Expr.Outer op left right) = IsBuilt levels left × IsBuilt levels right
+IsBuilt (suc levels) (Expr.Inner fold op left right) = IsTrue (is_fold fold) × IsBuilt levels left × IsBuilt levels right
+IsBuilt (suc levels) (Expr.Reduce fold of) = IsTrue (is_fold fold) × IsBuilt levels of
+IsBuilt (suc levels) (Expr.Scan fold of) = IsTrue (is_fold fold) × IsBuilt levels of
+
+abbrev pub IsBuiltItem : Item → Type 0
+IsBuiltItem (Item.Input name extents) = Unit {0}
+IsBuiltItem (Item.Let name of) = IsBuilt deepest of
+IsBuiltItem (Item.Output name of) = IsBuilt deepest of
+
+-- a statement that some text has
+pub record IsWritable (item : Item) : Type 0 where
+  pub built : IsBuiltItem item
+  pub spelled : AllByRecursion IsSpelled (item_lexemes item)

@@ -1,8 +1,11 @@
 -- The words of the language, and what each token is to it. This project's own.
-use Rattle.std.specs.Prelude.{ℕ, Bool, true, false, ◌||◌, List, [], ◌∷◌, ◌++◌, map, codes, ℤ, if◌then◌else◌}
+use Rattle.std.specs.Prelude.{ℕ, Bool, true, false, List, [], ◌∷◌, ◌++◌, map, codes, ℤ, if◌then◌else◌}
+use Rattle.std.specs.Fmt.{signed_decimal}
+use Rattle.std.specs.List.{list_any}
 use Rattle.std.specs.Str.{bytes_eq}
 use Rattle.text_tokens.specs.declared.token.Position.{Position}
 use Rattle.text_tokens.specs.declared.token.Sign.{Sign as SignByte}
+use Rattle.text_tokens.specs.declared.token.Sign.TheVariants as sign
 use Rattle.text_tokens.specs.declared.token.Token.{Token}
 use Rattle.text_tokens.specs.declared.token.Token.TheVariants as token
 use Rattle.text_tokens.specs.Tokens.{start, tokens}
@@ -59,35 +62,58 @@ is_fold op.Or = true
 is_fold op.Xor = true
 is_fold _ = false
 
--- every reserved word, with what it is
-abbrev pub reserved : List (List ℕ × Lexeme)
+-- how a word, a number or a sign is spelled, numbers in shortest decimal form
+abbrev pub spelling : Lexeme → List ℕ
+spelling Lexeme.In = codes "in"
+spelling Lexeme.Let = codes "let"
+spelling Lexeme.Out = codes "out"
+spelling Lexeme.Psi = codes "psi"
+spelling Lexeme.Take = codes "take"
+spelling Lexeme.Drop = codes "drop"
+spelling Lexeme.Permute = codes "permute"
+spelling Lexeme.Reshape = codes "reshape"
+spelling Lexeme.Reverse = codes "reverse"
+spelling Lexeme.Transpose = codes "transpose"
+spelling Lexeme.Ravel = codes "ravel"
+spelling Lexeme.Iota = codes "iota"
+spelling Lexeme.Rotate = codes "rotate"
+spelling Lexeme.Cat = codes "cat"
+spelling Lexeme.Outer = codes "outer"
+spelling Lexeme.Inner = codes "inner"
+spelling Lexeme.Reduce = codes "reduce"
+spelling Lexeme.Scan = codes "scan"
+spelling (Lexeme.Unary op) = unary_word op
+spelling (Lexeme.Binary op) = op_word op
+spelling (Lexeme.Name name) = name
+spelling (Lexeme.Number value) = signed_decimal value
+spelling (Lexeme.Sign sign.Less) = codes "<"
+spelling (Lexeme.Sign sign.Greater) = codes ">"
+spelling (Lexeme.Sign sign.Open) = codes "("
+spelling (Lexeme.Sign sign.Close) = codes ")"
+spelling (Lexeme.Sign sign.Equal) = codes "="
+spelling _ = []
+
+-- every reserved word
+abbrev pub reserved : List Lexeme
 reserved =
-    (codes "in", Lexeme.In) ∷ (codes "let", Lexeme.Let) ∷ (codes "out", Lexeme.Out)
-    ∷ (codes "psi", Lexeme.Psi) ∷ (codes "take", Lexeme.Take) ∷ (codes "drop", Lexeme.Drop)
-    ∷ (codes "permute", Lexeme.Permute) ∷ (codes "reshape", Lexeme.Reshape)
-    ∷ (codes "reverse", Lexeme.Reverse) ∷ (codes "transpose", Lexeme.Transpose) ∷ (codes "ravel", Lexeme.Ravel)
-    ∷ (codes "iota", Lexeme.Iota) ∷ (codes "rotate", Lexeme.Rotate) ∷ (codes "cat", Lexeme.Cat)
-    ∷ (codes "outer", Lexeme.Outer) ∷ (codes "inner", Lexeme.Inner)
-    ∷ (codes "reduce", Lexeme.Reduce) ∷ (codes "scan", Lexeme.Scan)
-    ∷ (map (λ op. (unary_word op, Lexeme.Unary op)) (unary.Neg ∷ unary.Not ∷ unary.Abs ∷ [])
-    ++ map (λ op. (op_word op, Lexeme.Binary op))
+    Lexeme.In ∷ Lexeme.Let ∷ Lexeme.Out ∷ Lexeme.Psi ∷ Lexeme.Iota
+    ∷ Lexeme.Take ∷ Lexeme.Drop ∷ Lexeme.Reverse ∷ Lexeme.Rotate ∷ Lexeme.Transpose ∷ Lexeme.Permute ∷ Lexeme.Cat
+    ∷ Lexeme.Reshape ∷ Lexeme.Ravel ∷ Lexeme.Outer ∷ Lexeme.Inner ∷ Lexeme.Reduce ∷ Lexeme.Scan
+    ∷ (map Lexeme.Unary (unary.Neg ∷ unary.Not ∷ unary.Abs ∷ [])
+    ++ map Lexeme.Binary
     (op.Add ∷ op.Sub ∷ op.Mul ∷ op.Quot ∷ op.Rem ∷ op.Min ∷ op.Max
     ∷ op.Eq ∷ op.Ne ∷ op.Lt ∷ op.Le ∷ op.And ∷ op.Or ∷ op.Xor ∷ []))
 
--- what a table says of a word, and a name where it says nothing
-abbrev pub looked_up : List (List ℕ × Lexeme) → List ℕ → Lexeme
-looked_up [] word = Lexeme.Name word
-looked_up (entry ∷ others) word = if bytes_eq word entry.0 then entry.1 else looked_up others word
-
-abbrev pub is_reserved_in : List (List ℕ × Lexeme) → List ℕ → Bool
-is_reserved_in [] word = false
-is_reserved_in (entry ∷ others) word = bytes_eq word entry.0 || is_reserved_in others word
-
 abbrev pub is_reserved : List ℕ → Bool
-is_reserved word = is_reserved_in reserved word
+is_reserved word = list_any (λ lexeme. bytes_eq word (spelling lexeme)) reserved
+
+-- the first of these that is spelled so, and a name where there is none
+abbrev pub word_among : List Lexeme → List ℕ → Lexeme
+word_among [] word = Lexeme.Name word
+word_among (first ∷ others) word = if bytes_eq word (spelling first) then first else word_among others word
 
 abbrev pub lexeme_of : Token → Lexeme
-lexeme_of (token.Word word) = looked_up reserved word
+lexeme_of (token.Word word) = word_among reserved word
 lexeme_of token.LongWord = Lexeme.LongWord
 lexeme_of (token.Number value) = Lexeme.Number value
 lexeme_of token.OutOfRange = Lexeme.OutOfRange

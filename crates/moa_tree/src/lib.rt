@@ -19,7 +19,7 @@ pub use reading_examples::{
     canonical_text, depth_refusals, expression_refusals, readings, statement_refusals,
     token_refusals,
 };
-pub use reading_laws::{never_both, one_reading, one_refusal};
+pub use reading_laws::{canonical_reads, never_both, one_reading, one_refusal};
 pub use text_tokens::Position;
 pub use tree::{Job, Node, Numbers, Statement};
 pub use tree_examples::pool_examples;
