@@ -6,6 +6,7 @@ use Rattle.text_tokens.specs.declared.token.Position.{Position}
 use Rattle.text_tokens.specs.declared.token.Sign.TheVariants as sign
 use Rattle.text_tokens.specs.declared.token.Token.{Token}
 use Rattle.moa_tree.specs.declared.operator.Op.{Op}
+use Rattle.moa_tree.specs.Expected.{cause_of}
 use Rattle.moa_tree.specs.Refusals.{Cause, IsFront, IsRefused, IsTooDeep, MayFollow, Wants, applies, counts, is_end, names}
 use Rattle.moa_tree.specs.Vocabulary.{Lexeme, is_fold, lexeme_of, lexemes_of}
 use Rattle.moa_tree.proofs.Examples.{shorter}
@@ -14,24 +15,6 @@ use Rattle.moa_tree.proofs.Wanted.{Want, after, at_start, next, no_front, stuck}
 -- what a front goes on with does not get stuck
 not_stuck : (front : List Lexeme) (lexeme : Lexeme) → MayFollow front lexeme → next (after at_start front) lexeme ≡ stuck → ⊥
 not_stuck front lexeme follows h = no_front (front ++ lexeme ∷ []) (fold-append next at_start front (lexeme ∷ []) ∙ h) follows
-
--- the cause that the first want gives
-abbrev pub cause_of : List Want → Lexeme → ℕ
-cause_of (Want.Version ∷ wants) lexeme = 4
-cause_of (Want.VersionNumber ∷ wants) lexeme = 4
-cause_of (Want.Items seen ∷ wants) lexeme = if is_end lexeme then 6 else 5
-cause_of (Want.Extents seen ∷ wants) lexeme = if is_end lexeme then 6 else 5
-cause_of (Want.AName ∷ wants) lexeme = 7
-cause_of (Want.AnEqual ∷ wants) lexeme = 8
-cause_of (Want.AnExpr depth ∷ wants) lexeme = 9
-cause_of (Want.AClose ∷ wants) lexeme = 10
-cause_of (Want.AList ∷ wants) lexeme = 11
-cause_of (Want.Entries ∷ wants) lexeme = 12
-cause_of (Want.ANumber ∷ wants) lexeme = 12
-cause_of (Want.AFold ∷ wants) lexeme = 13
-cause_of (Want.AnOp ∷ wants) lexeme = 13
-cause_of (Want.Never ∷ wants) lexeme = 0
-cause_of [] lexeme = 0
 
 at_in : (wants : List Want) (lexeme : Lexeme) → (next wants Lexeme.In ≡ stuck → ⊥) → cause_of wants lexeme ≡ (if is_end lexeme then 6 else 5)
 at_in (Want.Items seen ∷ wants) lexeme h = refl
@@ -128,7 +111,7 @@ past_inner_fold : (wants : List Want) (op : Op) (lexeme : Lexeme) → (after wan
 past_inner_fold (Want.AnExpr depth ∷ wants) op lexeme on = chosen_op (is_fold op) _ lexeme on
 past_inner_fold _ op lexeme on = absurd (on refl)
 
-cause_wanted : (front : List Lexeme) (lexeme : Lexeme) (cause : ℕ) → IsFront front → Wants front lexeme cause → cause_of (after at_start front) lexeme ≡ cause
+pub cause_wanted : (front : List Lexeme) (lexeme : Lexeme) (cause : ℕ) → IsFront front → Wants front lexeme cause → cause_of (after at_start front) lexeme ≡ cause
 cause_wanted front lexeme cause f (Wants.version l) = refl
 cause_wanted front lexeme cause f (Wants.version_number l) = refl
 cause_wanted front lexeme cause f (Wants.statement g l follows h) =

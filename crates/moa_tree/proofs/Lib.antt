@@ -1,8 +1,10 @@
 pub mod Alone
+pub mod Complete
 pub mod Determined
 pub mod Examples
 pub mod FitLemmas
 pub mod Levels
 pub mod PoolLemmas
 pub mod Printed
+pub mod Reprinted
 pub mod Wanted

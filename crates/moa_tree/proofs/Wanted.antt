@@ -1,125 +1,13 @@
--- What is wanted next, from the left, at some front: a stack that shows of a list of lexemes that no text of the grammar begins with it.
-use Rattle.std.proofs.Common.{◌≡◌, ℕ, zero, suc, ◌+◌, Bool, true, false, List, [], ◌∷◌, ◌++◌, refl, sym, ap, ◌∙◌, subst, append_assoc, arith, pos}
+-- Each text of the grammar leaves nothing wanted, so what gets stuck begins no text; and no expression is deeper than its want says.
+use Rattle.std.proofs.Common.{◌≡◌, ℕ, suc, ◌+◌, Bool, true, false, List, [], ◌∷◌, ◌++◌, refl, sym, ap, ◌∙◌, subst, append_assoc, arith}
 use Rattle.std.specs.Prelude.{◌&&◌, not, ◌==◌, ℤ, if◌then◌else◌}
-use Rattle.std.specs.List.{fold}
 use Rattle.std.proofs.lemmas.List.Sums.{fold-append}
 use Rattle.text_tokens.specs.declared.token.Sign.TheVariants as sign
+pub use Rattle.moa_tree.specs.Expected.{Want, after, at_start, next, stuck, wanted_depth}
 use Rattle.moa_tree.specs.Expr.{Expr, Item, Tree}
 use Rattle.moa_tree.specs.Readings.{Prefix, PrefixOfTwo, ReadsExpr, ReadsItem, ReadsItems, ReadsProgram, has_output, number_lexemes}
 use Rattle.moa_tree.specs.Refusals.{BeginsAt, BeginsWithin, IsFront, IsTooDeep, is_definition}
 use Rattle.moa_tree.specs.Vocabulary.{Lexeme, is_fold}
-
-pub data Want : Type 0 where
-  Version VersionNumber : Want
-  -- a statement, or the end where an output was seen; after an input's name also a number
-  Items : (seen : Bool) → Want
-  Extents : (seen : Bool) → Want
-  AName AnEqual : Want
-  -- an expression at this depth
-  AnExpr : (depth : ℕ) → Want
-  AClose AList Entries ANumber AFold AnOp : Want
-  Never : Want
-
-abbrev pub stuck : List Want
-stuck = Want.Never ∷ []
-
-abbrev pub on_name : List Want → Lexeme → List Want
-on_name wants (Lexeme.Name word) = wants
-on_name wants _ = stuck
-
-abbrev pub on_number : List Want → Lexeme → List Want
-on_number wants (Lexeme.Number value) = wants
-on_number wants _ = stuck
-
-abbrev pub on_version : List Want → Lexeme → List Want
-on_version wants Lexeme.Psi = wants
-on_version wants _ = stuck
-
-abbrev pub on_version_number : List Want → Lexeme → List Want
-on_version_number wants (Lexeme.Number (pos (suc zero))) = wants
-on_version_number wants _ = stuck
-
-abbrev pub on_equal : List Want → Lexeme → List Want
-on_equal wants (Lexeme.Sign sign.Equal) = wants
-on_equal wants _ = stuck
-
-abbrev pub on_close : List Want → Lexeme → List Want
-on_close wants (Lexeme.Sign sign.Close) = wants
-on_close wants _ = stuck
-
-abbrev pub on_list : List Want → Lexeme → List Want
-on_list wants (Lexeme.Sign sign.Less) = Want.Entries ∷ wants
-on_list wants _ = stuck
-
-abbrev pub on_entries : List Want → Lexeme → List Want
-on_entries wants (Lexeme.Number value) = Want.Entries ∷ wants
-on_entries wants (Lexeme.Sign sign.Greater) = wants
-on_entries wants _ = stuck
-
-abbrev pub on_op : List Want → Lexeme → List Want
-on_op wants (Lexeme.Binary op) = wants
-on_op wants _ = stuck
-
-abbrev pub on_fold : List Want → Lexeme → List Want
-on_fold wants (Lexeme.Binary op) = if is_fold op then wants else stuck
-on_fold wants _ = stuck
-
-abbrev pub on_items : Bool → List Want → Lexeme → List Want
-on_items seen wants Lexeme.In = Want.AName ∷ Want.Extents seen ∷ wants
-on_items seen wants Lexeme.Let = Want.AName ∷ Want.AnEqual ∷ Want.AnExpr 1 ∷ Want.Items seen ∷ wants
-on_items seen wants Lexeme.Out = Want.AName ∷ Want.AnEqual ∷ Want.AnExpr 1 ∷ Want.Items true ∷ wants
-on_items seen wants Lexeme.End = if seen then wants else stuck
-on_items seen wants _ = stuck
-
-abbrev pub on_extents : Bool → List Want → Lexeme → List Want
-on_extents seen wants (Lexeme.Number value) = Want.Extents seen ∷ wants
-on_extents seen wants other = on_items seen wants other
-
-abbrev pub on_expr : ℕ → List Want → Lexeme → List Want
-on_expr depth wants (Lexeme.Number value) = wants
-on_expr depth wants (Lexeme.Name word) = wants
-on_expr depth wants Lexeme.Iota = Want.ANumber ∷ wants
-on_expr depth wants (Lexeme.Sign sign.Open) = Want.AnExpr (suc depth) ∷ Want.AClose ∷ wants
-on_expr depth wants (Lexeme.Unary op) = Want.AnExpr (suc depth) ∷ wants
-on_expr depth wants (Lexeme.Binary op) = Want.AnExpr (suc depth) ∷ Want.AnExpr (suc depth) ∷ wants
-on_expr depth wants Lexeme.Psi = Want.AList ∷ Want.AnExpr (suc depth) ∷ wants
-on_expr depth wants Lexeme.Take = Want.AList ∷ Want.AnExpr (suc depth) ∷ wants
-on_expr depth wants Lexeme.Drop = Want.AList ∷ Want.AnExpr (suc depth) ∷ wants
-on_expr depth wants Lexeme.Permute = Want.AList ∷ Want.AnExpr (suc depth) ∷ wants
-on_expr depth wants Lexeme.Reshape = Want.AList ∷ Want.AnExpr (suc depth) ∷ wants
-on_expr depth wants Lexeme.Reverse = Want.AnExpr (suc depth) ∷ wants
-on_expr depth wants Lexeme.Transpose = Want.AnExpr (suc depth) ∷ wants
-on_expr depth wants Lexeme.Ravel = Want.AnExpr (suc depth) ∷ wants
-on_expr depth wants Lexeme.Rotate = Want.ANumber ∷ Want.AnExpr (suc depth) ∷ wants
-on_expr depth wants Lexeme.Cat = Want.AnExpr (suc depth) ∷ Want.AnExpr (suc depth) ∷ wants
-on_expr depth wants Lexeme.Outer = Want.AnOp ∷ Want.AnExpr (suc depth) ∷ Want.AnExpr (suc depth) ∷ wants
-on_expr depth wants Lexeme.Inner = Want.AFold ∷ Want.AnOp ∷ Want.AnExpr (suc depth) ∷ Want.AnExpr (suc depth) ∷ wants
-on_expr depth wants Lexeme.Reduce = Want.AFold ∷ Want.AnExpr (suc depth) ∷ wants
-on_expr depth wants Lexeme.Scan = Want.AFold ∷ Want.AnExpr (suc depth) ∷ wants
-on_expr depth wants _ = stuck
-
-abbrev pub next : List Want → Lexeme → List Want
-next [] lexeme = stuck
-next (Want.Version ∷ wants) lexeme = on_version wants lexeme
-next (Want.VersionNumber ∷ wants) lexeme = on_version_number wants lexeme
-next (Want.Items seen ∷ wants) lexeme = on_items seen wants lexeme
-next (Want.Extents seen ∷ wants) lexeme = on_extents seen wants lexeme
-next (Want.AName ∷ wants) lexeme = on_name wants lexeme
-next (Want.AnEqual ∷ wants) lexeme = on_equal wants lexeme
-next (Want.AnExpr depth ∷ wants) lexeme = on_expr depth wants lexeme
-next (Want.AClose ∷ wants) lexeme = on_close wants lexeme
-next (Want.AList ∷ wants) lexeme = on_list wants lexeme
-next (Want.Entries ∷ wants) lexeme = on_entries wants lexeme
-next (Want.ANumber ∷ wants) lexeme = on_number wants lexeme
-next (Want.AFold ∷ wants) lexeme = on_fold wants lexeme
-next (Want.AnOp ∷ wants) lexeme = on_op wants lexeme
-next (Want.Never ∷ wants) lexeme = stuck
-
-abbrev pub after : List Want → List Lexeme → List Want
-after wants lexemes = fold next wants lexemes
-
-abbrev pub at_start : List Want
-at_start = Want.Version ∷ Want.VersionNumber ∷ Want.Items false ∷ []
 
 pub chosen : (test : Bool) (wants others : List Want) → test ≡ true → (if test then wants else others) ≡ wants
 chosen true wants others h = refl
@@ -241,7 +129,7 @@ after_program levels lexemes tree (ReadsProgram.program l statements items reads
     after_items l statements items reads Lexeme.End refl false [] []
     ∙ chosen (seen_after false items) [] stuck (output_seen items h)
 
-after_stuck : (lexemes : List Lexeme) → after stuck lexemes ≡ stuck
+pub after_stuck : (lexemes : List Lexeme) → after stuck lexemes ≡ stuck
 after_stuck [] = refl
 after_stuck (lexeme ∷ others) = after_stuck others
 
@@ -252,11 +140,6 @@ not_empty h = cc h
 pub no_front : (lexemes : List Lexeme) → after at_start lexemes ≡ stuck → IsFront lexemes → ⊥
 no_front lexemes h (IsFront.begins levels before rest tree reads) =
     not_empty (sym (fold-append next at_start before rest ∙ ap (λ wants. after wants rest) h ∙ after_stuck rest) ∙ after_program levels (before ++ rest) tree reads)
-
--- the depth of the expression that is wanted, or 0
-abbrev pub wanted_depth : List Want → ℕ
-wanted_depth (Want.AnExpr depth ∷ wants) = depth
-wanted_depth _ = 0
 
 depth_within : (deeper : ℕ) (lexemes : List Lexeme) → BeginsWithin deeper lexemes → (depth : ℕ) (wants : List Want)
     → wanted_depth (after (Want.AnExpr depth ∷ wants) lexemes) ≡ depth + deeper

@@ -2,6 +2,7 @@ pub mod Axes
 pub mod Canonical
 pub mod Denotation
 pub mod Examples
+pub mod Expected
 pub mod Expr
 pub mod Folds
 pub mod Operators

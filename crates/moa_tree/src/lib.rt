@@ -19,7 +19,9 @@ pub use reading_examples::{
     canonical_text, depth_refusals, expression_refusals, readings, statement_refusals,
     token_refusals,
 };
-pub use reading_laws::{canonical_reads, never_both, one_reading, one_refusal};
+pub use reading_laws::{
+    canonical_reads, fronts, never_both, one_reading, one_refusal, reads_again,
+};
 pub use text_tokens::Position;
 pub use tree::{Job, Node, Numbers, Statement};
 pub use tree_examples::pool_examples;

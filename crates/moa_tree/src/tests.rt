@@ -1,4 +1,38 @@
 use super::*;
+use shapes_core::Name;
+use std::test::Fail;
+
+#[test]
+fn a_program_gives_its_parts(rt: HostRuntime) -> Result<(), Fail> {
+    let (Some(a), Some(c)) = (Name::new(b"A"), Name::new(b"C")) else {
+        assert!(rt; false, "A and C are names");
+        return Ok(());
+    };
+    let at = Position { line: 1, column: 1 };
+    let list = Numbers { start: 1, count: 1 };
+    let extents = Numbers { start: 0, count: 1 };
+    let nodes = vec![in rt.alloc(); Node::Use(a), Node::Take { list, of: 0 }]?;
+    let positions = vec![in rt.alloc(); at, Position { line: 3, column: 9 }]?;
+    let numbers = vec![in rt.alloc(); 2, 1]?;
+    let input = Statement::Input {
+        name: a,
+        extents,
+        at,
+    };
+    let output = Statement::Output {
+        name: c,
+        node: 1,
+        at,
+    };
+    let statements = vec![in rt.alloc(); input, output]?;
+    canonical_reads();
+    let program = Program::new(nodes, positions, numbers, statements);
+    assert_eq!(rt; program.statements().len(), 2);
+    assert_eq!(rt; program.position(1).column, 9);
+    assert!(rt; matches!(program.node(1), Node::Take { .. }));
+    assert_eq!(rt; program.list(list), [1].as_slice());
+    Ok(())
+}
 
 #[test]
 fn binary_operators_at_their_edges(rt: HostRuntime) {
