@@ -3,12 +3,12 @@ use Rattle.std.specs.List.{list_all}
 use Rattle.psi_edges.specs.Causes.{Rose}
 use Rattle.psi_edges.specs.Files.{Files, OnFile}
 use Rattle.psi_edges.specs.Held.{Appends, AppendsFront}
-use Rattle.rv_line.specs.Good.{IsStart}
-use Rattle.rv_line.specs.GoodText.{IsGood}
-use Rattle.rv_line.specs.Kinds.{is_base, is_free}
-use Rattle.rv_line.specs.Machine.{Config}
+use Rattle.rv_steps.specs.Good.{IsStart}
+use Rattle.rv_steps.specs.GoodText.{IsGood}
+use Rattle.rv_steps.specs.Kinds.{is_base, is_free}
+use Rattle.rv_steps.specs.Machine.{Config}
 use Rattle.rv_line.specs.Parts.{Parts}
-use Rattle.rv_line.specs.Stops.{Ends}
+use Rattle.rv_steps.specs.Stops.{Ends}
 use Rattle.psi_top.specs.Command.{IsCompile, usage_line, cannot_read_line, no_memory_line, not_built_line}
 use Rattle.vector_sum.specs.Kernel.{areas_of}
 use Rattle.vector_sum.specs.Meaning.{demand}

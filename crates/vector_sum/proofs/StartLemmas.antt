@@ -3,10 +3,10 @@ use Rattle.std.specs.Prelude.{nat_lt}
 use Rattle.std.specs.List.{All, AllByRecursion}
 use Rattle.std.proofs.lemmas.List.{length-replicate}
 use Rattle.std.proofs.lemmas.List.Elements.{All-from_recursion, All-replicate}
-use Rattle.rv_line.specs.Constants.{constant_lines}
-use Rattle.rv_line.specs.Good.{IsStart}
+use Rattle.rv_steps.specs.Constants.{constant_lines}
+use Rattle.rv_steps.specs.Good.{IsStart}
 use Rattle.rv_line.specs.declared.line.Line.{Line}
-use Rattle.rv_line.specs.Machine.{Config, address_of, register_at}
+use Rattle.rv_steps.specs.Machine.{Config, address_of, register_at}
 use Rattle.vector_sum.specs.Kernel.{areas_of, header_of, lines_of, walk_lines}
 use Rattle.vector_sum.specs.Source.{is_sound}
 use Rattle.vector_sum.specs.declared.source.VectorSum.{VectorSum}

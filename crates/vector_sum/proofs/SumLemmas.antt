@@ -5,9 +5,9 @@ use Rattle.std.proofs.lemmas.Simd.{zip2-map}
 use Rattle.std.specs.Int.{int_wrapping_add, w64}
 use Rattle.std.specs.List.{range_with_len}
 use Rattle.std.specs.Simd.Lanes.{zip2}
-use Rattle.rv_line.specs.Effects.{signed_value}
-use Rattle.rv_line.specs.Good.{input_values, output_values, values_at}
-use Rattle.rv_line.specs.Machine.{value_at}
+use Rattle.rv_steps.specs.Effects.{signed_value}
+use Rattle.rv_steps.specs.Good.{input_values, output_values, values_at}
+use Rattle.rv_steps.specs.Machine.{value_at}
 use Rattle.vector_sum.specs.Kernel.{areas_of, header_of}
 use Rattle.vector_sum.specs.Meaning.{demand}
 use Rattle.vector_sum.specs.Walk.{sum_at}

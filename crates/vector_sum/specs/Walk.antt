@@ -2,10 +2,10 @@
 use Rattle.std.specs.Prelude.{◌≡◌, ℕ, ◌+◌, ◌*◌, ◌%◌, ◌^◌, if◌then◌else◌, nat_lt, Bool, IsTrue, List, length}
 use Rattle.std.specs.Int.{w64}
 use Rattle.rv_line.specs.declared.line.Line.{Line}
-use Rattle.rv_line.specs.Effects.{sum_of}
-use Rattle.rv_line.specs.Good.{is_fine_step, is_kept}
-use Rattle.rv_line.specs.Machine.{Config, address_of, register_at, value_at}
-use Rattle.rv_line.specs.Written.{IsWritten}
+use Rattle.rv_steps.specs.Effects.{sum_of}
+use Rattle.rv_steps.specs.Good.{is_fine_step, is_kept}
+use Rattle.rv_steps.specs.Machine.{Config, address_of, register_at, value_at}
+use Rattle.rv_steps.specs.Written.{IsWritten}
 use Rattle.vector_sum.specs.Kernel.{areas_of, header_of}
 use Rattle.vector_sum.specs.declared.source.VectorSum.{VectorSum}
 

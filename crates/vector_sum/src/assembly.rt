@@ -7,13 +7,13 @@ ghost use Rattle.rv_line.specs.declared.line.Load.{Load};
 ghost use Rattle.rv_line.specs.declared.line.Store.{Store};
 ghost use Rattle.rv_line.specs.declared.line.Three.{Three};
 ghost use Rattle.std.specs.List.{list_all};
-ghost use Rattle.rv_line.specs.Good.{IsStart, Serves};
-ghost use Rattle.rv_line.specs.Kinds.{is_base, is_free};
-ghost use Rattle.rv_line.specs.Machine.{Config};
-ghost use Rattle.rv_line.specs.Stops.{Ends};
+ghost use Rattle.rv_steps.specs.Good.{IsStart, Serves};
+ghost use Rattle.rv_steps.specs.Kinds.{is_base, is_free};
+ghost use Rattle.rv_steps.specs.Machine.{Config};
+ghost use Rattle.rv_steps.specs.Stops.{Ends};
 ghost use Rattle.vector_sum.specs.Meaning.{demand};
 ghost use Rattle.vector_sum.specs.Source.{is_sound};
-ghost use Rattle.rv_line.specs.Constants.{constant_lines};
+ghost use Rattle.rv_steps.specs.Constants.{constant_lines};
 ghost use Rattle.vector_sum.specs.Kernel.{areas_of, header_of, lines_of, walk_lines};
 
 use crate::source::VectorSum;

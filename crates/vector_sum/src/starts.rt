@@ -1,6 +1,6 @@
 // A caller can start the program, so that what is said of every start is said of something.
-ghost use Rattle.rv_line.specs.Good.{IsStart};
-ghost use Rattle.rv_line.specs.Machine.{Config};
+ghost use Rattle.rv_steps.specs.Good.{IsStart};
+ghost use Rattle.rv_steps.specs.Machine.{Config};
 ghost use Rattle.std.specs.Prelude.{IsTrue};
 ghost use Rattle.vector_sum.specs.Kernel.{areas_of, header_of, lines_of};
 ghost use Rattle.vector_sum.specs.Source.{is_sound};

@@ -1,9 +1,9 @@
 // The laws of a run of the program. The functions do nothing but call for the machine's laws: their
 // clauses are the laws.
-ghost use Rattle.rv_line.specs.Good.{IsStart, Serves, is_kept};
-ghost use Rattle.rv_line.specs.Machine.{Config, address_of, register_at};
-ghost use Rattle.rv_line.specs.Pieces.{StandsAt};
-ghost use Rattle.rv_line.specs.Stops.{Along};
+ghost use Rattle.rv_steps.specs.Good.{IsStart, Serves, is_kept};
+ghost use Rattle.rv_steps.specs.Machine.{Config, address_of, register_at};
+ghost use Rattle.rv_steps.specs.Pieces.{StandsAt};
+ghost use Rattle.rv_steps.specs.Stops.{Along};
 ghost use Rattle.rv_line.specs.declared.line.Line.{Line};
 ghost use Rattle.std.specs.Prelude.{IsTrue, List, length, ℕ, ◌%◌, ◌*◌, ◌+◌, ◌<◌, ◌^◌, ◌≡◌, ◌≤◌};
 ghost use Rattle.vector_sum.specs.Kernel.{areas_of, header_of, lines_of, pointer_lines, turn_lines};
@@ -11,7 +11,7 @@ ghost use Rattle.vector_sum.specs.Meaning.{demand};
 ghost use Rattle.vector_sum.specs.Walk.{IsFineFor, IsWalking};
 ghost use Rattle.vector_sum.specs.declared.source.VectorSum.{VectorSum};
 
-use rv_line::{machine_laws, run_laws};
+use rv_steps::{machine_laws, run_laws};
 
 /// One turn of the loop is eight steps.
 fn turn()

@@ -4,10 +4,10 @@ use Rattle.std.specs.Prelude.{IsTrue, Result}
 use Rattle.shapes_core.specs.declared.area.Area.{Area}
 use Rattle.rv_line.specs.declared.assembly.Header.{Header}
 use Rattle.rv_line.specs.declared.line.Line.{Line}
-use Rattle.rv_line.specs.Good.{IsStart, Serves}
-use Rattle.rv_line.specs.Machine.{Config}
+use Rattle.rv_steps.specs.Good.{IsStart, Serves}
+use Rattle.rv_steps.specs.Machine.{Config}
 use Rattle.rv_line.specs.Parts.{Parts}
-use Rattle.rv_line.specs.Stops.{Ends}
+use Rattle.rv_steps.specs.Stops.{Ends}
 use Rattle.vector_sum.specs.Kernel.{areas_of, header_of, lines_of}
 use Rattle.vector_sum.specs.Meaning.{demand}
 use Rattle.vector_sum.specs.Source.{is_sound}

@@ -4,10 +4,10 @@ use Rattle.std.specs.Prelude.{IsTrue, nat_lt}
 use Rattle.rv_line.specs.declared.line.Line.{Line}
 use Rattle.rv_line.specs.declared.line.Three.{Three}
 use Rattle.rv_line.specs.declared.line.Imm.{Imm}
-use Rattle.rv_line.specs.Good.{is_kept}
-use Rattle.rv_line.specs.Machine.{Config, Goes, IsAt, NoAccess, next_step, access_at, with_result, register_at, address_of}
-use Rattle.rv_line.specs.Pieces.{StandsAt}
-use Rattle.rv_line.specs.Stops.{Along}
+use Rattle.rv_steps.specs.Good.{is_kept}
+use Rattle.rv_steps.specs.Machine.{Config, Goes, IsAt, NoAccess, next_step, access_at, with_result, register_at, address_of}
+use Rattle.rv_steps.specs.Pieces.{StandsAt}
+use Rattle.rv_steps.specs.Stops.{Along}
 use Rattle.vector_sum.specs.Kernel.{pointer_lines}
 use Rattle.vector_sum.specs.Walk.{IsFineFor, IsWalking, is_fine_for, sum_at}
 use Rattle.vector_sum.specs.declared.source.VectorSum.{VectorSum}

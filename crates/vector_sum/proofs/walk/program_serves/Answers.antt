@@ -4,11 +4,11 @@ use Rattle.std.specs.Prelude.{IsTrue, if◌then◌else◌, nat_lt, slice_get, �
 use Rattle.rv_line.specs.declared.line.Line.{Line}
 use Rattle.rv_line.specs.declared.line.Line.TheVariants.{Imm as ImmLine, Lui}
 use Rattle.rv_line.specs.declared.line.Imm.TheVariants.{Addi, Addiw}
-use Rattle.rv_line.specs.Constants.{constant_lines, upper_of}
-use Rattle.rv_line.specs.Good.{IsStart, Serves, is_kept}
-use Rattle.rv_line.specs.Machine.{Config, Goes, IsAt, address_of, next_step, register_at, with_register}
-use Rattle.rv_line.specs.Pieces.{SparesOthers, StandsAt}
-use Rattle.rv_line.specs.Stops.{Along}
+use Rattle.rv_steps.specs.Constants.{constant_lines, upper_of}
+use Rattle.rv_steps.specs.Good.{IsStart, Serves, is_kept}
+use Rattle.rv_steps.specs.Machine.{Config, Goes, IsAt, address_of, next_step, register_at, with_register}
+use Rattle.rv_steps.specs.Pieces.{SparesOthers, StandsAt}
+use Rattle.rv_steps.specs.Stops.{Along}
 use Rattle.vector_sum.specs.Kernel.{areas_of, header_of, lines_of, pointer_lines, turn_lines, walk_lines}
 use Rattle.vector_sum.specs.Meaning.{demand}
 use Rattle.vector_sum.specs.Walk.{IsFineFor, is_fine_for, sum_at}

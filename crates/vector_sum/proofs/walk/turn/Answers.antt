@@ -10,11 +10,11 @@ use Rattle.rv_line.specs.declared.line.Imm.{Imm}
 use Rattle.rv_line.specs.declared.line.Load.{Load}
 use Rattle.rv_line.specs.declared.line.Store.{Store}
 use Rattle.rv_line.specs.declared.line.Branch.{Branch}
-use Rattle.rv_line.specs.Effects.{is_taken}
-use Rattle.rv_line.specs.Good.{is_input, is_kept}
-use Rattle.rv_line.specs.Machine.{Config, Goes, IsAt, NoAccess, Loads, Stores, address, next_step, access_at, with_result, register_at, value_at, with_value, address_of}
-use Rattle.rv_line.specs.Pieces.{StandsAt}
-use Rattle.rv_line.specs.Stops.{Along}
+use Rattle.rv_steps.specs.Effects.{is_taken}
+use Rattle.rv_steps.specs.Good.{is_input, is_kept}
+use Rattle.rv_steps.specs.Machine.{Config, Goes, IsAt, NoAccess, Loads, Stores, address, next_step, access_at, with_result, register_at, value_at, with_value, address_of}
+use Rattle.rv_steps.specs.Pieces.{StandsAt}
+use Rattle.rv_steps.specs.Stops.{Along}
 use Rattle.shapes_core.specs.Shape.{total}
 use Rattle.shapes_core.specs.declared.area.Area.{Area}
 use Rattle.shapes_core.specs.declared.area.AreaKind.TheVariants.{In, Out}

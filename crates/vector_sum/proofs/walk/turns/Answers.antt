@@ -2,9 +2,9 @@ use Rattle.std.proofs.Common.{◌≡◌, ℕ, zero, suc, ◌+◌, ◌*◌, ◌%�
 use Rattle.std.proofs.Math.Nat.{zero-mul, suc-mul}
 use Rattle.std.proofs.Math.Numerals.{add-one}
 use Rattle.rv_line.specs.declared.line.Line.{Line}
-use Rattle.rv_line.specs.Machine.{Config}
-use Rattle.rv_line.specs.Pieces.{StandsAt}
-use Rattle.rv_line.specs.Stops.{Along}
+use Rattle.rv_steps.specs.Machine.{Config}
+use Rattle.rv_steps.specs.Pieces.{StandsAt}
+use Rattle.rv_steps.specs.Stops.{Along}
 use Rattle.vector_sum.specs.Kernel.{turn_lines}
 use Rattle.vector_sum.specs.Walk.{IsFineFor, IsWalking, is_fine_for}
 use Rattle.vector_sum.specs.declared.source.VectorSum.{VectorSum}

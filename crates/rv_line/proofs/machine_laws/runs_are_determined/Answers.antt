@@ -1,5 +1,0 @@
-use Rattle.rv_line.proofs.Runs.{reaches_same, ends_once, stops_once}
-use Rattle.rv_line.proofs.machine_laws.runs_are_determined.Goals as goal
-
-pub returns : goal.returns
-returns c = record { steps = reaches_same; ends = ends_once; stops = stops_once }

@@ -1,5 +1,0 @@
-use Rattle.rv_line.proofs.Runs.{run-stops, run-is, stops_within}
-use Rattle.rv_line.proofs.machine_laws.runs_stop.Goals as goal
-
-pub returns : goal.returns
-returns c = record { computed = run-stops; only = run-is; enough = stops_within }

@@ -1,5 +1,0 @@
-use Rattle.rv_line.proofs.Fine.{load-fine, store-fine}
-use Rattle.rv_line.proofs.run_laws.area_words_are_fine.Goals as goal
-
-pub returns : goal.returns
-returns c = record { load = load-fine; store = store-fine }

@@ -1,5 +1,0 @@
-use Rattle.rv_line.proofs.Pieces.{piece-line, piece-stands}
-use Rattle.rv_line.proofs.run_laws.pieces_stand.Goals as goal
-
-pub returns : goal.returns
-returns c = record { line = piece-line; stands = piece-stands }

@@ -1,5 +1,0 @@
-use Rattle.rv_line.proofs.Walks.{walk-within, walk-wrapping}
-use Rattle.rv_line.proofs.run_laws.pointers_walk.Goals as goal
-
-pub returns : goal.returns
-returns c = record { within = walk-within; wrapping = walk-wrapping }

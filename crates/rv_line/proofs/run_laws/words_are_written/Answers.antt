@@ -1,5 +1,0 @@
-use Rattle.rv_line.proofs.Written.{none-written, more-written, values-written, values-elsewhere}
-use Rattle.rv_line.proofs.run_laws.words_are_written.Goals as goal
-
-pub returns : goal.returns
-returns c = record { none = none-written; more = more-written; values = values-written; others = values-elsewhere }

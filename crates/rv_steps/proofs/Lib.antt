@@ -1,0 +1,10 @@
+pub mod Constants
+pub mod Fine
+pub mod Kept
+pub mod Memory
+pub mod Pieces
+pub mod Runs
+pub mod Steps
+pub mod Walks
+pub mod Words
+pub mod Written

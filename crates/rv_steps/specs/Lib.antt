@@ -1,0 +1,10 @@
+pub mod Constants
+pub mod Effects
+pub mod Good
+pub mod GoodText
+pub mod Kinds
+pub mod Machine
+pub mod MachineExamples
+pub mod Pieces
+pub mod Stops
+pub mod Written
