@@ -1,16 +1,12 @@
 -- In a reading of so many levels no expression begins deeper than these.
-use Rattle.std.proofs.Common.{◌≡◌, ℕ, suc, ◌+◌, ◌≤◌, ◌<◌, Bool, true, false, List, [], ◌∷◌, ◌++◌, refl, sym, ap, ◌∙◌, subst, append_assoc, arith}
+use Rattle.std.proofs.Common.{◌≡◌, ℕ, suc, ◌+◌, ◌≤◌, ◌<◌, Bool, true, false, List, [], ◌∷◌, ◌++◌, refl, ap, ◌∙◌, append_assoc, arith}
 use Rattle.std.specs.Prelude.{◌&&◌, not, ◌==◌, ℤ}
 use Rattle.std.proofs.lemmas.Bool.Decides.{nat_tests}
-use Rattle.std.proofs.lemmas.List.{append-nil}
-use Rattle.text_tokens.specs.declared.token.Position.{Position}
 use Rattle.text_tokens.specs.declared.token.Sign.TheVariants as sign
 use Rattle.moa_tree.specs.Expr.{Expr, Tree}
-use Rattle.moa_tree.specs.Readings.{Prefix, PrefixOfTwo, Reads, ReadsExpr, ReadsItem, ReadsItems, ReadsProgram, number_lexemes}
-use Rattle.moa_tree.specs.Refusals.{IsFront, IsRefused}
-use Rattle.moa_tree.specs.Vocabulary.{Lexeme, is_fold, lexeme_of, lexemes, lexemes_of}
-use Rattle.moa_tree.proofs.Alone.{goes_on, lexemes_split}
-use Rattle.moa_tree.proofs.Wanted.{Want, at_start, chosen, ends_items, is_shallow, not_deep, seen_after, stuck}
+use Rattle.moa_tree.specs.Readings.{Prefix, PrefixOfTwo, ReadsExpr, ReadsItem, ReadsItems, ReadsProgram, number_lexemes}
+use Rattle.moa_tree.specs.Vocabulary.{Lexeme, is_fold, lexemes}
+use Rattle.moa_tree.proofs.Wanted.{Want, at_start, chosen, ends_items, is_shallow, seen_after, stuck}
 
 passes : (depth : ℕ) → depth < 129 → not (depth == 129) ≡ true
 passes depth h = grind (arith, nat_tests)
@@ -23,12 +19,12 @@ level_entries : (list : List ℤ) (wants : List Want) (rest : List Lexeme)
 level_entries [] wants rest = refl
 level_entries (value ∷ others) wants rest = level_entries others wants rest
 
-level_extents : (list : List ℤ) (seen : Bool) (wants : List Want) (rest : List Lexeme)
+pub level_extents : (list : List ℤ) (seen : Bool) (wants : List Want) (rest : List Lexeme)
     → is_shallow (Want.Extents seen ∷ wants) (number_lexemes list ++ rest) ≡ is_shallow (Want.Extents seen ∷ wants) rest
 level_extents [] seen wants rest = refl
 level_extents (value ∷ others) seen wants rest = level_extents others seen wants rest
 
-level_prefix : (before : List Lexeme) (form : Expr → Expr) → Prefix before form → (depth : ℕ) → depth < 129 → (wants : List Want) (rest : List Lexeme)
+pub level_prefix : (before : List Lexeme) (form : Expr → Expr) → Prefix before form → (depth : ℕ) → depth < 129 → (wants : List Want) (rest : List Lexeme)
     → is_shallow (Want.AnExpr depth ∷ wants) (before ++ rest) ≡ is_shallow (Want.AnExpr (suc depth) ∷ wants) rest
 level_prefix before form (Prefix.unary op) depth h wants rest = pass depth _ h
 level_prefix before form (Prefix.psi list) depth h wants rest = pass depth _ h ∙ level_entries list (Want.AnExpr (suc depth) ∷ wants) rest
@@ -45,7 +41,7 @@ level_prefix before form (Prefix.reduce op f) depth h wants rest =
 level_prefix before form (Prefix.scan op f) depth h wants rest =
     pass depth _ h ∙ ap (λ list. is_shallow list rest) (chosen (is_fold op) (Want.AnExpr (suc depth) ∷ wants) stuck f)
 
-level_prefix_of_two : (before : List Lexeme) (form : Expr → Expr → Expr) → PrefixOfTwo before form
+pub level_prefix_of_two : (before : List Lexeme) (form : Expr → Expr → Expr) → PrefixOfTwo before form
     → (depth : ℕ) → depth < 129 → (wants : List Want) (rest : List Lexeme)
     → is_shallow (Want.AnExpr depth ∷ wants) (before ++ rest) ≡ is_shallow (Want.AnExpr (suc depth) ∷ Want.AnExpr (suc depth) ∷ wants) rest
 level_prefix_of_two before form (PrefixOfTwo.binary op) depth h wants rest = pass depth _ h
@@ -55,7 +51,7 @@ level_prefix_of_two before form (PrefixOfTwo.inner f op fold) depth h wants rest
     pass depth _ h
     ∙ ap (λ list. is_shallow list (Lexeme.Binary op ∷ rest)) (chosen (is_fold f) (Want.AnOp ∷ Want.AnExpr (suc depth) ∷ Want.AnExpr (suc depth) ∷ wants) stuck fold)
 
-level_expr : (levels : ℕ) (lexemes : List Lexeme) (expr : Expr) → ReadsExpr levels lexemes expr
+pub level_expr : (levels : ℕ) (lexemes : List Lexeme) (expr : Expr) → ReadsExpr levels lexemes expr
     → (depth : ℕ) → depth + levels ≤ 129 → (wants : List Want) (rest : List Lexeme)
     → is_shallow (Want.AnExpr depth ∷ wants) (lexemes ++ rest) ≡ is_shallow wants rest
 level_expr levels lexemes expr (ReadsExpr.number l value) depth h wants rest = pass depth _ (omega arith)
@@ -80,7 +76,7 @@ level_end : (last : Lexeme) → ends_items last ≡ true → (seen : Bool) (want
 level_end (Lexeme.Number value) h seen wants rest = absurd (cc h)
 level_end _ h seen wants rest = refl
 
-level_extents_items : (levels : ℕ) (lexemes : List Lexeme) (tree : Tree) → ReadsItems levels lexemes tree
+pub level_extents_items : (levels : ℕ) (lexemes : List Lexeme) (tree : Tree) → ReadsItems levels lexemes tree
     → (last : Lexeme) → ends_items last ≡ true → (seen : Bool) (wants : List Want) (rest : List Lexeme)
     → is_shallow (Want.Extents seen ∷ wants) (lexemes ++ last ∷ rest) ≡ is_shallow (Want.Items seen ∷ wants) (lexemes ++ last ∷ rest)
 level_extents_items levels lexemes tree (ReadsItems.none l) last h seen wants rest = level_end last h seen wants rest
@@ -106,17 +102,6 @@ level_items levels lexemes tree (ReadsItems.more l first others item items (Read
     ∙ level_expr l of e reads_e 1 (omega arith) (Want.Items true ∷ wants) (others ++ last ∷ rest)
     ∙ level_items l others items reads within last h true wants rest
 
-level_program : (levels : ℕ) (lexemes : List Lexeme) (tree : Tree) → ReadsProgram levels lexemes tree → levels ≤ 128 → is_shallow at_start lexemes ≡ true
+pub level_program : (levels : ℕ) (lexemes : List Lexeme) (tree : Tree) → ReadsProgram levels lexemes tree → levels ≤ 128 → is_shallow at_start lexemes ≡ true
 level_program levels lexemes tree (ReadsProgram.program l statements items reads h) within =
     level_items l statements items reads within Lexeme.End refl false [] []
-
--- a text that is read is not refused
-pub never_both : (text : List ℕ) (tree : Tree) (position : Position) (cause : ℕ) → Reads text tree → IsRefused text position cause → ⊥
-never_both text tree position cause reads r =
-    let front = lexemes_of r.before in
-    let rest = lexemes_of r.after in
-    let split : lexemes text ≡ front ++ lexeme_of r.token ∷ rest = ap lexemes_of r.whole ∙ lexemes_split r.before (r.token, position) r.after in
-    let whole : IsFront (lexemes text) =
-    IsFront.begins 128 (lexemes text) [] tree (subst (λ list. ReadsProgram 128 list tree) (sym (append-nil (lexemes text))) reads) in
-    goes_on front (lexeme_of r.token) rest cause (subst IsFront split whole)
-    (not_deep (lexemes text) (level_program 128 (lexemes text) tree reads (omega arith)) front (lexeme_of r.token) rest split) r.cause_is

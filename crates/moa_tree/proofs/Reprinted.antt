@@ -2,6 +2,7 @@
 use Rattle.std.proofs.Common.{◌≡◌, ℕ, zero, suc, Bool, true, false, List, [], ◌∷◌, ◌++◌, refl, ap, ◌∙◌, subst}
 use Rattle.std.specs.Prelude.{◌&&◌, ◌||◌, not, ℤ, FitsSigned, IsTrue, if◌then◌else◌}
 use Rattle.std.specs.Int.{w64}
+use Rattle.std.specs.Cmp.Derive.{both_true}
 use Rattle.std.specs.List.{All, AllByRecursion, list_all, list_any}
 use Rattle.std.specs.Str.{bytes_eq}
 use Rattle.std.proofs.lemmas.List.Elements.{All-head, All-tail}
@@ -16,6 +17,7 @@ use Rattle.moa_tree.specs.Canonical.{IsBuilt, IsSpelled, IsWritable, expr_lexeme
 use Rattle.moa_tree.specs.Expr.{Expr, Item, Tree}
 use Rattle.moa_tree.specs.Readings.{Prefix, PrefixOfTwo, Reads, ReadsExpr, ReadsItem, ReadsItems, ReadsProgram, has_output, list_lexemes, number_lexemes}
 use Rattle.moa_tree.specs.Vocabulary.{Lexeme, is_reserved, lexeme_of, lexemes, lexemes_of, reserved, spelling, word_among}
+use Rattle.moa_tree.proofs.Wanted.{both}
 
 -- a name is no reserved word, and a number has 64 bits
 abbrev pub IsSound : Lexeme → Type 0
@@ -38,25 +40,17 @@ choice_sound : (test : Bool) (first other : Lexeme) → is_plain first ≡ true 
 choice_sound true first other h more = plain_sound first h
 choice_sound false first other h more = more refl
 
-halves : (a b : Bool) → (a && b) ≡ true → (a ≡ true) × (b ≡ true)
-halves true b h = (refl, h)
-halves false b h = absurd (cc h)
-
-joined : (a b : Bool) → a ≡ true → b ≡ true → (a && b) ≡ true
-joined true b h k = k
-joined false b h k = absurd (cc h)
-
 among_sound : (words : List Lexeme) → list_all is_plain words ≡ true → (word : List ℕ)
     → (list_any (λ lexeme. bytes_eq word (spelling lexeme)) words ≡ false → IsSound (Lexeme.Name word)) → IsSound (word_among words word)
 among_sound [] plain word h = h refl
 among_sound (first ∷ others) plain word h =
-    let parts = halves (is_plain first) (list_all is_plain others) plain in
+    let parts = both (is_plain first) (list_all is_plain others) plain in
     let rest = list_any (λ lexeme. bytes_eq word (spelling lexeme)) others in
     choice_sound (bytes_eq word (spelling first)) first (word_among others word) parts.0
     (λ e. among_sound others parts.1 word (λ none. h (ap (λ test. test || rest) e ∙ none)))
 
 token_sound : (t : Token) → IsFit t → IsSound (lexeme_of t)
-token_sound (token.Word word) h = among_sound reserved refl word (λ none. joined (is_name word) (not (is_reserved word)) h (ap not none))
+token_sound (token.Word word) h = among_sound reserved refl word (λ none. both_true h (ap not none))
 token_sound (token.Number value) h = h
 token_sound token.LongWord h = tt
 token_sound token.OutOfRange h = tt

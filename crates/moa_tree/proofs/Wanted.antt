@@ -133,8 +133,13 @@ pub after_stuck : (lexemes : List Lexeme) → after stuck lexemes ≡ stuck
 after_stuck [] = refl
 after_stuck (lexeme ∷ others) = after_stuck others
 
-not_empty : stuck ≡ [] → ⊥
+pub not_empty : stuck ≡ [] → ⊥
 not_empty h = cc h
+
+-- what a front begins with is one
+pub shorter : (front rest : List Lexeme) → IsFront (front ++ rest) → IsFront front
+shorter front rest (IsFront.begins levels before later tree reads) =
+    IsFront.begins levels front (rest ++ later) tree (subst (λ list. ReadsProgram levels list tree) (append_assoc front rest later) reads)
 
 -- no text begins with these
 pub no_front : (lexemes : List Lexeme) → after at_start lexemes ≡ stuck → IsFront lexemes → ⊥
@@ -182,12 +187,14 @@ pub both : (a b : Bool) → (a && b) ≡ true → (a ≡ true) × (b ≡ true)
 both true b h = (refl, h)
 both false b h = absurd (cc h)
 
+pub not_at_129 : (depth : ℕ) → not (depth == 129) ≡ true → depth ≡ 129 → ⊥
+not_at_129 depth h deep =
+    let there : not (129 == 129) ≡ true = subst (λ d. not (d == 129) ≡ true) deep h in
+    cc there
+
 shallow_at : (earlier : List Lexeme) (lexeme : Lexeme) (later : List Lexeme) (wants : List Want)
     → is_shallow wants (earlier ++ lexeme ∷ later) ≡ true → wanted_depth (after wants earlier) ≡ 129 → ⊥
-shallow_at [] lexeme later wants h deep =
-    let here : not (wanted_depth wants == 129) ≡ true = (both (not (wanted_depth wants == 129)) _ h).0 in
-    let there : not (129 == 129) ≡ true = subst (λ depth. not (depth == 129) ≡ true) deep here in
-    cc there
+shallow_at [] lexeme later wants h deep = not_at_129 (wanted_depth wants) (both (not (wanted_depth wants == 129)) _ h).0 deep
 shallow_at (first ∷ others) lexeme later wants h deep =
     shallow_at others lexeme later (next wants first) (both (not (wanted_depth wants == 129)) _ h).1 deep
 

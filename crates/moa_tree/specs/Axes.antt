@@ -1,5 +1,6 @@
--- What an operator does with the axes of a shape or an index vector. After Mullin, A Mathematics of Arrays (1988).
-use Rattle.std.specs.Prelude.{ℕ, ◌+◌, ◌-◌, ℤ, pos, negsuc, ◌+ℤ◌, List, [], ◌∷◌, map, slice_index, slice_set, take, unsigned_abs, ◌==◌, length}
+-- What an operator does with the axes of a shape or an index vector. After Mullin, A Mathematics of Arrays (1988). What is done to an index
+-- vector is done to a list with one item an axis, whatever an item is, by what is done to one item.
+use Rattle.std.specs.Prelude.{ℕ, zero, suc, ◌+◌, ◌-◌, ℤ, pos, negsuc, ◌+ℤ◌, List, [], ◌∷◌, map, slice_index, slice_index_or, slice_set, take, drop, unsigned_abs, nat_lt, ◌==◌, length, if◌then◌else◌}
 use Rattle.std.specs.Int.{int_rem_euclid}
 use Rattle.std.specs.List.{position_or_len, range_with_len}
 
@@ -7,15 +8,13 @@ use Rattle.std.specs.List.{position_or_len, range_with_len}
 abbrev pub naturals : List ℤ → List ℕ
 naturals list = map unsigned_abs list
 
--- the shape that two pointwise operands have in common: that of the one that is no scalar, if there is one
+-- the shape that two pointwise operands have in common: the longer one
 abbrev pub common : List ℕ → List ℕ → List ℕ
-common [] other = other
-common (n ∷ shape) other = n ∷ shape
+common shape other = if nat_lt (length shape) (length other) then other else shape
 
--- the index vector for one pointwise operand: a scalar has only the empty one
-abbrev pub own_index : List ℕ → List ℕ → List ℕ
-own_index [] index = []
-own_index (n ∷ shape) index = index
+-- the index vector for one pointwise operand: the last entries, one for each axis of the operand
+abbrev pub own_index : {X : Type 0} → List ℕ → List X → List X
+own_index shape index = drop (length index - length shape) index
 
 -- a shape after a function of each number of the list and its axis; the axes that the list does not reach stay
 abbrev pub each_extent : (ℤ → ℕ → ℕ) → List ℤ → List ℕ → List ℕ
@@ -24,7 +23,7 @@ each_extent f (k ∷ list) [] = []
 each_extent f (k ∷ list) (n ∷ shape) = f k n ∷ each_extent f list shape
 
 -- the same of an index vector, where the function also sees the extent of the operand
-abbrev pub each_place : (ℤ → ℕ → ℕ → ℕ) → List ℤ → List ℕ → List ℕ → List ℕ
+abbrev pub each_place : {X : Type 0} → (ℤ → ℕ → X → X) → List ℤ → List ℕ → List X → List X
 each_place f [] shape index = index
 each_place f (k ∷ list) [] index = index
 each_place f (k ∷ list) (n ∷ shape) [] = []
@@ -54,9 +53,16 @@ mirrored n i = n - 1 - i
 abbrev pub turned : ℤ → ℕ → ℕ → ℕ
 turned by n i = unsigned_abs (int_rem_euclid (pos i +ℤ by) (pos n))
 
+-- place i behind the first n, counted from there
+abbrev pub behind : ℕ → ℕ → ℕ
+behind n i = i - n
+
 -- the index vector with a function of the extent and its place on one axis
-abbrev pub on_axis : ℕ → (ℕ → ℕ → ℕ) → List ℕ → List ℕ → List ℕ
-on_axis axis f shape index = slice_set index axis (f (slice_index shape axis) (slice_index index axis))
+abbrev pub on_axis : {X : Type 0} → ℕ → (ℕ → X → X) → List ℕ → List X → List X
+on_axis axis f [] index = index
+on_axis axis f (n ∷ shape) [] = []
+on_axis zero f (n ∷ shape) (i ∷ index) = f n i ∷ index
+on_axis (suc axis) f (n ∷ shape) (i ∷ index) = i ∷ on_axis axis f shape index
 
 -- a shape with the extent of a second one added on one axis
 abbrev pub joined : ℕ → List ℕ → List ℕ → List ℕ
@@ -66,9 +72,10 @@ joined axis shape other = slice_set shape axis (slice_index shape axis + slice_i
 abbrev pub but_last : List ℕ → List ℕ
 but_last list = take (length list - 1) list
 
--- the entries that a permutation selects, and the index vector with entry j at axis p_j
+-- the entries that a permutation selects, and the index vector with entry j at axis p_j, or the first argument where none is there
 abbrev pub selected : List ℕ → List ℕ → List ℕ
 selected permutation shape = map (λ axis. slice_index shape axis) permutation
 
-abbrev pub restored : List ℕ → List ℕ → List ℕ
-restored permutation index = map (λ axis. slice_index index (position_or_len (λ p. p == axis) permutation)) (range_with_len 0 (length permutation))
+abbrev pub restored : {X : Type 0} → X → List ℕ → List X → List X
+restored other permutation index =
+    map (λ axis. slice_index_or index (position_or_len (λ p. p == axis) permutation) other) (range_with_len 0 (length permutation))

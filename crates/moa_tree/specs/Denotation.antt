@@ -3,8 +3,9 @@ use Rattle.std.specs.Prelude.{ℕ, ℤ, List, [], ◌∷◌, ◌++◌, map}
 use Rattle.std.specs.List.{fold}
 use Rattle.shapes_core.specs.Gamma.{rows}
 use Rattle.moa_tree.specs.Axes.{naturals}
-use Rattle.moa_tree.specs.Expr.{Expr, Number, Use, Iota, One, Two, Psi, Take, Drop, Reverse, Rotate, Transpose, Permute, Cat, Reshape, Ravel, Outer, Inner, Reduce, Scan, Item, Input, Let, Output, Tree}
+use Rattle.moa_tree.specs.Expr.{Expr, Item, Input, Let, Output, Tree}
 use Rattle.moa_tree.specs.ShapeOf.{beside}
+use Rattle.moa_tree.specs.Subexpressions.{scans_in}
 use Rattle.moa_tree.specs.Values.{Known, Env, element, shape_in, value}
 
 -- names with the lists of their arrays
@@ -14,6 +15,10 @@ Store = List (List ℕ × List ℤ)
 -- the values of an expression at every index vector of its shape, in row-major order
 abbrev pub values : Env → Expr → List ℤ
 values env expr = map (value env expr) (rows (shape_in env expr))
+
+-- the list that an output stores
+abbrev pub output_list : Env → Expr → List ℤ
+output_list env expr = values env expr
 
 -- an array whose list is stored
 abbrev pub stored : List ℕ → List ℤ → Known
@@ -27,7 +32,7 @@ computed env expr = record { shape = shape_in env expr; at = value env expr }
 abbrev pub after : Store → Env → Item → Env
 after inputs env (Input name extents) = (name, stored (naturals extents) (beside [] inputs name)) ∷ env
 after inputs env (Let name of) = (name, computed env of) ∷ env
-after inputs env (Output name of) = (name, stored (shape_in env of) (values env of)) ∷ env
+after inputs env (Output name of) = (name, stored (shape_in env of) (output_list env of)) ∷ env
 
 -- the names after these statements
 abbrev pub after_all : Store → Env → Tree → Env
@@ -37,7 +42,7 @@ after_all inputs env items = fold (after inputs) env items
 abbrev pub outputs_of : Env → Item → Store
 outputs_of env (Input name extents) = []
 outputs_of env (Let name of) = []
-outputs_of env (Output name of) = (name, values env of) ∷ []
+outputs_of env (Output name of) = (name, output_list env of) ∷ []
 
 -- the outputs of these statements, in order
 abbrev pub denote_from : Store → Env → Tree → Store
@@ -47,28 +52,6 @@ denote_from inputs env (item ∷ items) = outputs_of env item ++ denote_from inp
 -- the outputs of a program on its inputs, in order
 abbrev pub denote : Tree → Store → Store
 denote tree inputs = denote_from inputs [] tree
-
--- the scans in an expression, by the place of their words in the text
-abbrev pub scans_in : Expr → List Expr
-scans_in (Number value) = []
-scans_in (Use name) = []
-scans_in (Iota extent) = []
-scans_in (One op of) = scans_in of
-scans_in (Two op left right) = scans_in left ++ scans_in right
-scans_in (Psi list of) = scans_in of
-scans_in (Take list of) = scans_in of
-scans_in (Drop list of) = scans_in of
-scans_in (Reverse of) = scans_in of
-scans_in (Rotate by of) = scans_in of
-scans_in (Transpose of) = scans_in of
-scans_in (Permute list of) = scans_in of
-scans_in (Cat left right) = scans_in left ++ scans_in right
-scans_in (Reshape list of) = scans_in of
-scans_in (Ravel of) = scans_in of
-scans_in (Outer op left right) = scans_in left ++ scans_in right
-scans_in (Inner fold op left right) = scans_in left ++ scans_in right
-scans_in (Reduce fold of) = scans_in of
-scans_in (Scan fold of) = Scan fold of ∷ scans_in of
 
 -- the scans of one statement
 abbrev pub scans_of : Item → List Expr

@@ -1,4 +1,4 @@
--- How the worked examples are written: inputs A and B, an output C, and numbers as they stand in a text.
+-- How the worked examples are written: inputs A and B, an output C, numbers as they stand in a text, and refusals.
 use Rattle.std.specs.Prelude.{ℕ, ℤ, List, [], ◌∷◌, ◌++◌, codes}
 use Rattle.text_tokens.specs.declared.token.Token.{Token}
 use Rattle.text_tokens.specs.declared.token.Token.TheVariants.{Word, LongWord, Number, OutOfRange, Sign, Malformed, End}
@@ -6,6 +6,7 @@ use Rattle.text_tokens.specs.Tokens.{tokens_only}
 use Rattle.moa_tree.specs.Axes.{naturals}
 use Rattle.moa_tree.specs.Denotation.{Store, after_all, denote}
 use Rattle.moa_tree.specs.Expr.{Expr, Use, Input, Output, Tree}
+use Rattle.moa_tree.specs.Outcome.{Outcome}
 use Rattle.moa_tree.specs.ShapeOf.{beside}
 use Rattle.moa_tree.specs.Values.{shape_in}
 use Prim.Native.String.{String}
@@ -54,3 +55,7 @@ with_one extents list expr = output ((codes "A", numbers list) ∷ []) (Input (c
 -- the same without an input
 abbrev pub alone : Expr → List ℕ × List ℤ
 alone expr = output [] [] expr
+
+-- refused at a line and a column, with a cause
+abbrev pub refused : ℕ → ℕ → ℕ → Outcome
+refused line column cause = Outcome.Refused (record { line = line; column = column }) cause

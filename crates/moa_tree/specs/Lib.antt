@@ -6,10 +6,15 @@ pub mod Expected
 pub mod Expr
 pub mod Folds
 pub mod Operators
+pub mod Outcome
 pub mod Pool
+pub mod PoolExamples
 pub mod Pools
+pub mod Positions
 pub mod Readings
 pub mod Refusals
 pub mod ShapeOf
+pub mod Subexpressions
+pub mod Trees
 pub mod Values
 pub mod Vocabulary

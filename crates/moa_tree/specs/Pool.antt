@@ -1,6 +1,6 @@
 -- The tree for which a program's pools stand. This project's own.
 use Rattle.std.specs.Prelude.{ℕ, ◌+◌, ◌<◌, ℤ, pos, List, [], ◌∷◌, ◌++◌, length, map, slice_index_or, slice_range}
-use Rattle.std.specs.List.{AllByRecursion}
+use Rattle.std.specs.List.{AllByRecursion, flat_map}
 use Rattle.moa_tree.specs.declared.tree.Node.{Node}
 use Rattle.moa_tree.specs.declared.tree.Node.TheVariants as node
 use Rattle.moa_tree.specs.declared.tree.Numbers.{Numbers}
@@ -38,10 +38,14 @@ expr_of pool trees (node.Inner fold op left right) = Inner fold op (tree_at tree
 expr_of pool trees (node.Reduce fold of) = Reduce fold (tree_at trees of)
 expr_of pool trees (node.Scan fold of) = Scan fold (tree_at trees of)
 
+-- what each of some nodes has, behind what the nodes before them have: of its number, itself and what was before it
+abbrev pub each_after : {X : Type 0} → (List X → ℕ → Node → X) → List X → List Node → List X
+each_after f before [] = before
+each_after f before (first ∷ others) = each_after f (before ++ f before (length before) first ∷ []) others
+
 -- the trees of some nodes behind those that have theirs
 abbrev pub trees_after : List ℤ → List Expr → List Node → List Expr
-trees_after pool trees [] = trees
-trees_after pool trees (first ∷ others) = trees_after pool (trees ++ expr_of pool trees first ∷ []) others
+trees_after pool trees nodes = each_after (λ before number node. expr_of pool before node) trees nodes
 
 -- the tree of each node: its operands stand before it
 abbrev pub trees : List ℤ → List Node → List Expr
@@ -82,3 +86,19 @@ operands (node.Scan fold of) = of ∷ []
 -- every operand of a node has a smaller number than the node
 abbrev pub IsOrdered : List Node → Type 0
 IsOrdered nodes = (number : ℕ) (other : Node) → number < length nodes → AllByRecursion (λ operand. operand < number) (operands (slice_index_or nodes number other))
+
+-- the walk of a node, a list of numbers of nodes, among those of the nodes before it
+abbrev pub walk_at : List (List ℕ) → ℕ → List ℕ
+walk_at walks number = slice_index_or walks number []
+
+-- a node stands before the walks of its operands, and these from left to right
+abbrev pub walk_from : List (List ℕ) → ℕ → Node → List ℕ
+walk_from walks number node = number ∷ flat_map (walk_at walks) (operands node)
+
+-- the walk of each node
+abbrev pub walks : List Node → List (List ℕ)
+walks nodes = each_after walk_from [] nodes
+
+-- the numbers of a node and of those under it, in prefix order
+abbrev pub walk_of : List Node → ℕ → List ℕ
+walk_of nodes number = walk_at (walks nodes) number

@@ -1,9 +1,9 @@
 -- The value of an expression at one index vector of its shape. After Mullin, A Mathematics of Arrays (1988): each operator is given by the
 -- place of its operand from which an element comes.
-use Rattle.std.specs.Prelude.{ℕ, ◌-◌, ℤ, pos, List, [], ◌∷◌, ◌++◌, map, take, drop, length, reverse, nat_lt, slice_index, slice_index_or, slice_set, if◌then◌else◌}
+use Rattle.std.specs.Prelude.{ℕ, ◌-◌, Bool, true, false, ℤ, pos, List, [], ◌∷◌, ◌++◌, map, take, drop, length, reverse, nat_lt, slice_index, slice_index_or}
 use Rattle.shapes_core.specs.Gamma.{gamma, ungamma}
 use Rattle.shapes_core.specs.Shape.{total}
-use Rattle.moa_tree.specs.Axes.{naturals, own_index, each_place, taken_from, remaining_from, mirrored, on_axis, turned, restored}
+use Rattle.moa_tree.specs.Axes.{naturals, own_index, each_place, taken_from, remaining_from, mirrored, behind, on_axis, turned, restored}
 use Rattle.moa_tree.specs.Expr.{Expr, Number, Use, Iota, One, Two, Psi, Take, Drop, Reverse, Rotate, Transpose, Permute, Cat, Reshape, Ravel, Outer, Inner, Reduce, Scan}
 use Rattle.moa_tree.specs.Folds.{fold_along, fold_below, fold_until}
 use Rattle.moa_tree.specs.Operators.{apply, apply_unary}
@@ -34,11 +34,15 @@ shapes_of env = map (λ entry. (entry.0, entry.1.shape)) env
 abbrev pub shape_in : Env → Expr → List ℕ
 shape_in env expr = shape_of (shapes_of env) expr
 
+-- the value of the first function where the test holds, else of the other
+abbrev pub chosen : {X Y : Type 0} → Bool → (X → Y) → (X → Y) → X → Y
+chosen true first other x = first x
+chosen false first other x = other x
+
 -- an array that is joined of two on one axis: the first one, and behind its extent the other
 abbrev pub either_part : ℕ → List ℕ → (List ℕ → ℤ) → (List ℕ → ℤ) → List ℕ → ℤ
 either_part axis shape first other index =
-    if nat_lt (slice_index index axis) (slice_index shape axis) then first index
-    else other (slice_set index axis (slice_index index axis - slice_index shape axis))
+    chosen (nat_lt (slice_index index axis) (slice_index shape axis)) first (λ i. other (on_axis axis behind shape i)) index
 
 -- one equation for each operator
 abbrev pub value : Env → Expr → List ℕ → ℤ
@@ -54,7 +58,7 @@ value env (Drop list of) index = value env of (each_place remaining_from list (s
 value env (Reverse of) index = value env of (on_axis 0 mirrored (shape_in env of) index)
 value env (Rotate by of) index = value env of (on_axis 0 (turned by) (shape_in env of) index)
 value env (Transpose of) index = value env of (reverse index)
-value env (Permute list of) index = value env of (restored (naturals list) index)
+value env (Permute list of) index = value env of (restored 0 (naturals list) index)
 value env (Cat left right) index = either_part 0 (shape_in env left) (λ i. value env left i) (λ i. value env right i) index
 value env (Reshape list of) index = value env of (ungamma (shape_in env of) (gamma index (naturals list)))
 value env (Ravel of) index = value env of (ungamma (shape_in env of) (gamma index (total (shape_in env of) ∷ [])))

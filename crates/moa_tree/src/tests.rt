@@ -8,21 +8,25 @@ fn a_program_gives_its_parts(rt: HostRuntime) -> Result<(), Fail> {
         assert!(rt; false, "A and C are names");
         return Ok(());
     };
-    let at = Position { line: 1, column: 1 };
     let list = Numbers { start: 1, count: 1 };
     let extents = Numbers { start: 0, count: 1 };
     let nodes = vec![in rt.alloc(); Node::Use(a), Node::Take { list, of: 0 }]?;
-    let positions = vec![in rt.alloc(); at, Position { line: 3, column: 9 }]?;
+    let of_a = Position {
+        line: 3,
+        column: 18,
+    };
+    let of_take = Position { line: 3, column: 9 };
+    let positions = vec![in rt.alloc(); of_a, of_take]?;
     let numbers = vec![in rt.alloc(); 2, 1]?;
     let input = Statement::Input {
         name: a,
         extents,
-        at,
+        at: Position { line: 2, column: 4 },
     };
     let output = Statement::Output {
         name: c,
         node: 1,
-        at,
+        at: Position { line: 3, column: 5 },
     };
     let statements = vec![in rt.alloc(); input, output]?;
     canonical_reads();

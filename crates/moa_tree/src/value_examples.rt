@@ -1,7 +1,10 @@
 // Worked examples of what programs denote: no body runs.
 ghost use Rattle.std.specs.Prelude.{◌≡◌, ℕ, ℤ, pos, negsuc, List, [], ◌∷◌, codes};
 ghost use Rattle.moa_tree.specs.Expr.{Number, Use, Iota, One, Two, Psi, Take, Drop, Reverse, Rotate, Transpose, Permute, Cat, Reshape, Ravel, Outer, Inner, Reduce, Scan, Input, Let, Output};
-ghost use Rattle.moa_tree.specs.Denotation.{denote, denote_scans};
+ghost use Rattle.moa_tree.specs.Denotation.{denote, denote_scans, scans_of};
+ghost use Rattle.moa_tree.specs.Axes.{joined, mirrored, on_axis, own_index, restored};
+ghost use Rattle.moa_tree.specs.Folds.{fold_along, fold_until};
+ghost use Rattle.moa_tree.specs.Values.{either_part, element};
 ghost use Rattle.moa_tree.specs.Examples.{a, b, numbers, array, with_one, with_two, alone};
 
 use crate::operator::{Op, Unary};
@@ -59,8 +62,16 @@ pub fn product_examples()
         ≡ array "0" "" }
     ensures inner_of_no_column { with_two "2" "1 2" "2 0" "" (Inner Op.Add Op.Mul a b)
         ≡ array "0" "" }
+    ensures inner_of_a_cube_and_a_matrix { with_two "2 2 3" "1 2 3 4 5 6 7 8 9 10 11 12" "3 2" "1 2 0 1 3 -1" (Inner Op.Add Op.Mul a b)
+        ≡ array "2 2 2" "10 1 22 7 34 13 46 19" }
+    ensures inner_of_a_vector_and_a_matrix { with_two "2" "1 2" "2 3" "1 2 3 4 5 6" (Inner Op.Add Op.Mul a b)
+        ≡ array "3" "9 12 15" }
+    ensures inner_of_a_vector_and_a_cube { with_two "2" "1 2" "2 2 2" "1 2 3 4 5 6 7 8" (Inner Op.Add Op.Mul a b)
+        ≡ array "2 2" "11 14 17 20" }
     ensures outer_product { with_two "2" "1 2" "3" "10 20 30" (Outer Op.Sub a b)
         ≡ array "2 3" "-9 -19 -29 -8 -18 -28" }
+    ensures outer_of_a_matrix_and_a_vector { with_two "2 2" "1 2 3 4" "3" "10 20 30" (Outer Op.Sub a b)
+        ≡ array "2 2 3" "-9 -19 -29 -8 -18 -28 -7 -17 -27 -6 -16 -26" }
     ensures outer_of_none_before { with_two "0" "" "2" "1 2" (Outer Op.Sub a b) ≡ array "0 2" "" }
     ensures outer_of_none_behind { with_two "2" "1 2" "0" "" (Outer Op.Sub a b) ≡ array "2 0" "" }
 {}
@@ -94,9 +105,13 @@ pub fn view_examples()
         ≡ array "2" "2 1" }
     ensures take_two_axes { with_one "2 3" "1 2 3 4 5 6" (Take (numbers "1 -2") a)
         ≡ array "1 2" "2 3" }
+    ensures take_leaves_later_axes { with_one "2 3" "1 2 3 4 5 6" (Take (numbers "1") a)
+        ≡ array "1 3" "1 2 3" }
     ensures drop_back { with_one "4" "1 2 3 4" (Drop (numbers "-3") a) ≡ array "1" "1" }
     ensures drop_two_axes { with_one "2 3" "1 2 3 4 5 6" (Drop (numbers "1 -1") a)
         ≡ array "1 2" "4 5" }
+    ensures drop_leaves_later_axes { with_one "2 3" "1 2 3 4 5 6" (Drop (numbers "1") a)
+        ≡ array "1 3" "4 5 6" }
     ensures differences { with_one "6" "3 5 4 9 9 2" (Two Op.Sub (Drop (numbers "1") a) (Drop (numbers "-1") a))
         ≡ array "5" "2 -1 5 0 -7" }
     ensures reverse_rows { with_one "2 2" "1 2 3 4" (Reverse a) ≡ array "2 2" "3 4 1 2" }
@@ -121,6 +136,8 @@ pub fn join_examples()
 /// Axes in another order, and arrays in another shape.
 pub fn axis_examples()
     ensures transposed { with_one "2 3" "1 2 3 4 5 6" (Transpose a) ≡ array "3 2" "1 4 2 5 3 6" }
+    ensures transposed_cube { with_one "2 3 4" "0 1 2 3 4 5 6 7 8 9 10 11 12 13 14 15 16 17 18 19 20 21 22 23" (Transpose a)
+        ≡ array "4 3 2" "0 12 4 16 8 20 1 13 5 17 9 21 2 14 6 18 10 22 3 15 7 19 11 23" }
     ensures permuted_cube { with_one "2 3 4" "0 1 2 3 4 5 6 7 8 9 10 11 12 13 14 15 16 17 18 19 20 21 22 23" (Permute (numbers "2 0 1") a)
         ≡ array "4 2 3" "0 4 8 12 16 20 1 5 9 13 17 21 2 6 10 14 18 22 3 7 11 15 19 23" }
     ensures reshaped { with_one "6" "1 2 3 4 5 6" (Reshape (numbers "3 2") a)
@@ -163,4 +180,39 @@ pub fn program_examples()
         ∷ Output (codes "C") (Cat (Scan Op.Add (Scan Op.Mul a)) (Scan Op.Min a)) ∷ [])
         ((codes "A", numbers "1 2 3") ∷ [])
         ≡ numbers "3 3 3" ∷ numbers "1 3 9" ∷ numbers "1 2 6" ∷ numbers "1 1 1" ∷ [] }
+{}
+
+/// The scans of a statement: an operator before its operands, and these from the left.
+pub fn scan_examples()
+    ensures in_both_operands { scans_of (Let (codes "P") (Two Op.Add (Scan Op.Add a) (Scan Op.Mul b)))
+        ≡ Scan Op.Add a ∷ Scan Op.Mul b ∷ [] }
+    ensures in_both_joined { scans_of (Output (codes "P") (Cat (Scan Op.Add a) (Scan Op.Mul b)))
+        ≡ Scan Op.Add a ∷ Scan Op.Mul b ∷ [] }
+    ensures in_both_of_an_outer_product { scans_of (Output (codes "P") (Outer Op.Add (Scan Op.Add a) (Scan Op.Mul b)))
+        ≡ Scan Op.Add a ∷ Scan Op.Mul b ∷ [] }
+    ensures in_both_of_an_inner_product { scans_of (Output (codes "P") (Inner Op.Min Op.Add (Scan Op.Add a) (Scan Op.Mul b)))
+        ≡ Scan Op.Add a ∷ Scan Op.Mul b ∷ [] }
+    ensures below_turns { scans_of (Let (codes "P") (One Unary.Neg (Reverse (Rotate (pos 1) (Transpose (Ravel (Reduce Op.Add (Scan Op.Max a))))))))
+        ≡ Scan Op.Max a ∷ [] }
+    ensures below_lists { scans_of (Let (codes "P") (Psi (numbers "0") (Take (numbers "1") (Drop (numbers "1") (Permute (numbers "0") (Reshape (numbers "3") (Scan Op.Max (Scan Op.Min a))))))))
+        ≡ Scan Op.Max (Scan Op.Min a) ∷ Scan Op.Min a ∷ [] }
+    ensures in_no_leaf { scans_of (Let (codes "P") (Two Op.Add (Iota (pos 3)) (Two Op.Mul a (Number (pos 2)))))
+        ≡ [] }
+    ensures in_no_input { scans_of (Input (codes "A") (numbers "3")) ≡ [] }
+{}
+
+/// What is done on one axis that is not the first, and to items that are no numbers.
+pub fn later_axis_examples()
+    ensures changed { on_axis 1 mirrored (2 ∷ 3 ∷ 4 ∷ []) (1 ∷ 0 ∷ 3 ∷ []) ≡ 1 ∷ 2 ∷ 3 ∷ [] }
+    ensures joined_shape { joined 1 (2 ∷ 3 ∷ []) (2 ∷ 4 ∷ []) ≡ 2 ∷ 7 ∷ [] }
+    ensures in_the_first_part { either_part 1 (2 ∷ 3 ∷ []) (element (numbers "1 2 3 4 5 6") (2 ∷ 3 ∷ [])) (element (numbers "7 8 9 10") (2 ∷ 2 ∷ [])) (1 ∷ 2 ∷ [])
+        ≡ pos 6 }
+    ensures in_the_second_part { either_part 1 (2 ∷ 3 ∷ []) (element (numbers "1 2 3 4 5 6") (2 ∷ 3 ∷ [])) (element (numbers "7 8 9 10") (2 ∷ 2 ∷ [])) (1 ∷ 3 ∷ [])
+        ≡ pos 9 }
+    ensures folded { fold_along Op.Add 1 (2 ∷ 3 ∷ []) (element (numbers "1 2 3 4 5 6") (2 ∷ 3 ∷ [])) (1 ∷ [])
+        ≡ pos 15 }
+    ensures folded_so_far { fold_until Op.Add 1 (element (numbers "1 2 3 4 5 6") (2 ∷ 3 ∷ [])) (1 ∷ 1 ∷ [])
+        ≡ pos 9 }
+    ensures last_entries { own_index (3 ∷ []) (numbers "-1 -2") ≡ numbers "-2" }
+    ensures restored_items { restored (pos 0) (2 ∷ 0 ∷ 1 ∷ []) (numbers "-1 -2 -3") ≡ numbers "-2 -3 -1" }
 {}

@@ -4,18 +4,22 @@ ghost use Rattle.std.specs.List.{All};
 ghost use Rattle.std.specs.Prelude.{FitsSigned, ◌≡◌, ℕ, ℤ, List, [], ◌∷◌, ◌++◌};
 ghost use Rattle.shapes_core.specs.Gamma.{IsIndex};
 ghost use Rattle.moa_tree.specs.declared.operator.Op.{Op as Operator};
-ghost use Rattle.moa_tree.specs.Denotation.{values};
+ghost use Rattle.moa_tree.specs.Denotation.{output_list};
 ghost use Rattle.moa_tree.specs.Expr.{Expr};
 ghost use Rattle.moa_tree.specs.Folds.{fold_of, none_folded};
 ghost use Rattle.moa_tree.specs.declared.operator.Unary.{Unary as UnaryOperator};
 ghost use Rattle.moa_tree.specs.Operators.{apply, apply_unary, identity};
 ghost use Rattle.moa_tree.specs.Values.{Env, element, shape_in, value};
 
+use shapes_core::laws::gamma_laws;
+
 /// The list of an output reads back, at each index vector, as the value of its expression.
 pub fn stored_values()
     ensures { (env : Env) (expr : Expr) (index : List ℕ) → IsIndex index (shape_in env expr)
-        → element (values env expr) (shape_in env expr) index ≡ value env expr index }
-{}
+        → element (output_list env expr) (shape_in env expr) index ≡ value env expr index }
+{
+    gamma_laws();
+}
 
 /// A fold over no element is the identity, and one element more is one more use of the operator.
 pub fn fold_equations()

@@ -1,4 +1,4 @@
-use Rattle.std.specs.Prelude.{ℕ, ◌+◌, ◌-◌, ◌^◌, ◌≤◌, min, OnErr, Result}
+use Rattle.std.specs.Prelude.{◌≡◌, ℕ, ◌+◌, ◌-◌, ◌^◌, ◌≤◌, min, OnErr, OnOk, Result}
 
 -- a count that rises by an amount, and stands still at the greatest number of 64 bits
 abbrev pub raised : ℕ → ℕ → ℕ
@@ -8,7 +8,8 @@ raised before amount = min (before + amount) (2 ^ 64 - 1)
 abbrev pub Rose : ℕ → ℕ → Type 0
 Rose before now = raised before 1 ≤ now
 
--- a count of faults never falls, and a call fails only where it rose
+-- a count of faults never falls; a call fails only where it rose, and succeeds only where it is as before
 pub record HasCause {T E : Type 0} (before now : ℕ) (result : Result T E) : Type 0 where
   pub later : before ≤ now
   pub failed : OnErr result (Rose before now)
+  pub same : OnOk result (now ≡ before)

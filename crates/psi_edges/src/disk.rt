@@ -1,5 +1,5 @@
 // Real files as a shelf.
-ghost use Rattle.std.specs.Prelude.{◌≡◌, ◌<◌, ◌≤◌, ◌^◌, length, IfOk, MatchResult, None};
+ghost use Rattle.std.specs.Prelude.{◌≡◌, ◌-◌, ◌<◌, ◌≤◌, ◌^◌, length, IfOk, MatchResult, None};
 ghost use Rattle.psi_edges.specs.Causes.{HasCause, raised};
 ghost use Rattle.psi_edges.specs.Files.{Gives, OnFile};
 ghost use Rattle.psi_edges.specs.Counts.{no_counts};
@@ -64,6 +64,7 @@ impl<'a, R: Files> Shelf for DiskShelf<'a, R> {
             (λ count. self.new.given ≡ raised self.old.given count) (λ _. self.new.given ≡ self.old.given) }
         ensures cause { HasCause self.old.faults self.new.faults result }
         ensures more_given { self.old.given ≤ self.new.given }
+        ensures bounded { self.new.given ≤ 2 ^ 64 - 1 }
     {
         match read_at(self.files, name, at, into) {
             Ok(count) => {
@@ -78,11 +79,22 @@ impl<'a, R: Files> Shelf for DiskShelf<'a, R> {
     }
 }
 
-/// Reads once from byte `at` of the file on.
+/// Opens the file and reads once from its byte `at` on.
 fn read_at<R: Files>(files: &R, name: &str, at: u64, into: &mut [u8]) -> io::Result<usize>
     ensures { IfOk result (λ count. count ≤ length into.new) }
 {
     let mut file = fs::open(files, name)?;
+    seek_and_read(&mut file, at, into)
+}
+
+/// Goes to byte `at` of the file and reads once.
+pub(crate) fn seek_and_read<F: Read + Seek>(
+    file: &mut F,
+    at: u64,
+    into: &mut [u8],
+) -> io::Result<usize>
+    ensures { IfOk result (λ count. count ≤ length into.new) }
+{
     file.seek(SeekFrom::Start(at))?;
     file.read(into)
 }

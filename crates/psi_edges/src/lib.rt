@@ -4,6 +4,7 @@
 #![tactic(auto)]
 
 mod disk;
+mod examples;
 mod memory_shelf;
 mod memory_sink;
 mod shelf;
@@ -15,9 +16,10 @@ mod tests;
 mod whole;
 
 pub use disk::DiskShelf;
+pub use examples::cause_examples;
 pub use memory_shelf::MemoryShelf;
 pub use memory_sink::MemorySink;
 pub use shelf::{Failed, Shelf};
 pub use sink::Sink;
-pub use standard::{ErrSink, OutSink};
+pub use standard::{ErrSink, OutSink, StreamSink};
 pub use whole::{Fetch, WriteFault, read_whole, write_whole};

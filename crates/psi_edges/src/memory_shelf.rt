@@ -13,7 +13,7 @@ use std::alloc::Global;
 use std::collections::BTreeMap;
 use std::marker::Model;
 
-/// Files in memory. It tells them, and its calls fail where they are told to.
+/// Files in memory. It tells them, and the calls that are named fail.
 #[derive(Drop)]
 pub struct MemoryShelf {
     alloc: Global,
@@ -102,6 +102,7 @@ impl Shelf for MemoryShelf {
             (λ file. Gives file at count into.new)) }
         ensures cause { HasCause self.old.faults self.new.faults result }
         ensures more_given { self.old.given ≤ self.new.given }
+        ensures bounded { self.new.given ≤ 2 ^ 64 - 1 }
     {
         self.calls = self.calls.saturating_add(1);
         let named = self.failing.contains(&self.calls);

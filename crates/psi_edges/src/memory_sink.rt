@@ -10,7 +10,7 @@ use shapes_core::NoMemory;
 use std::alloc::Global;
 use std::marker::Model;
 
-/// Bytes in memory, of which there is room for so many. It tells them, and its calls fail where they are told to.
+/// Bytes in memory, of which there is room for so many. It tells them, and the calls that are named fail.
 #[derive(Drop)]
 pub struct MemorySink {
     bytes: Vec<u8>,

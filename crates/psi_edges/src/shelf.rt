@@ -1,5 +1,5 @@
 // A shelf: files that are taken from piece by piece.
-ghost use Rattle.std.specs.Prelude.{◌≡◌, ℕ, ◌^◌, ◌<◌, ◌≤◌, List, Option, length, IfOk, MatchResult};
+ghost use Rattle.std.specs.Prelude.{◌≡◌, ℕ, ◌-◌, ◌^◌, ◌<◌, ◌≤◌, List, Option, length, IfOk, MatchResult};
 ghost use Rattle.psi_edges.specs.Causes.{HasCause, raised};
 ghost use Rattle.psi_edges.specs.Files.{Files, Gives, OnFile};
 
@@ -37,5 +37,6 @@ pub trait Shelf {
         ensures given { MatchResult result
             (λ count. given self.new ≡ raised (given self.old) count) (λ _. given self.new ≡ given self.old) }
         ensures more_given { given self.old ≤ given self.new }
+        ensures bounded { given self.new ≤ 2 ^ 64 - 1 }
         ensures unchanged { files self.new ≡ files self.old };
 }

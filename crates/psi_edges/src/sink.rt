@@ -1,7 +1,7 @@
 // A sink: bytes that are put at an end.
-ghost use Rattle.std.specs.Prelude.{◌≡◌, ℕ, ◌<◌, ◌≤◌, ◌++◌, List, Option, length, take, IfOk, MatchResult};
+ghost use Rattle.std.specs.Prelude.{◌≡◌, ℕ, ◌<◌, ◌≤◌, List, Option, length, IfOk};
 ghost use Rattle.psi_edges.specs.Causes.{HasCause};
-ghost use Rattle.psi_edges.specs.Held.{Appends};
+ghost use Rattle.psi_edges.specs.Held.{Puts};
 
 use crate::shelf::Failed;
 
@@ -17,8 +17,6 @@ pub trait Sink {
     fn put(&mut self, bytes: &[u8]) -> Result<usize, Failed>
         requires { 0 < length bytes.now }
         ensures within { IfOk result (λ count. (1 ≤ count) × (count ≤ length bytes.now)) }
-        ensures held { MatchResult result
-            (λ count. Appends (held self.old) (held self.new) (take count bytes.now))
-            (λ _. held self.new ≡ held self.old) }
+        ensures held { Puts result (held self.old) (held self.new) bytes.now }
         ensures cause { HasCause (faults self.old) (faults self.new) result };
 }

@@ -1,5 +1,5 @@
 // What a shelf keeps count of.
-ghost use Rattle.std.specs.Prelude.{◌≡◌, ◌≤◌, length, take};
+ghost use Rattle.std.specs.Prelude.{◌≡◌, ◌-◌, ◌^◌, ◌≤◌, length, take};
 ghost use Rattle.psi_edges.specs.Causes.{raised};
 ghost use Rattle.psi_edges.specs.Counts.{no_counts};
 
@@ -47,6 +47,7 @@ impl Tally {
         requires { length name.now ≤ 4096 }
         ensures failed { self.new ≡ record self.old { faults = raised self.old.faults 1; failed_name = name.now } }
         ensures later { self.old.faults ≤ self.new.faults }
+        ensures bounded { self.new.given ≤ 2 ^ 64 - 1 }
     {
         copy_front(&mut self.failed, name.as_bytes());
         self.failed_len = name.len();

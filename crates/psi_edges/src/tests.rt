@@ -1,10 +1,10 @@
-// Each shelf and each sink on its happy path, where it is told to fail, and where the outside refuses.
+// Each shelf and each sink on its happy path, where a call of it is named to fail, and where the outside refuses.
 ghost use Rattle.std.specs.Prelude.{◌^◌, ◌<◌, ◌≤◌, length};
 
-use crate::standard::put_through;
+use crate::disk::seek_and_read;
 use crate::*;
 use std::alloc::Global;
-use std::io::Write;
+use std::io::{Read, Seek, SeekFrom, Write};
 use std::test::Fail;
 use std::{env, fs, io, process};
 
@@ -23,7 +23,7 @@ fn length_read<F: Shelf>(
 }
 
 #[test]
-fn a_memory_shelf_gives_what_is_there_and_fails_as_told(rt: HostRuntime) -> Result<(), Fail> {
+fn a_memory_shelf_gives_what_is_there_and_fails_where_named(rt: HostRuntime) -> Result<(), Fail> {
     let mut shelf = MemoryShelf::new(rt.alloc());
     let mut into = [0u8; 4];
     assert_eq!(rt; shelf.add("a", b"first"), Ok(()));
@@ -42,7 +42,7 @@ fn a_memory_shelf_gives_what_is_there_and_fails_as_told(rt: HostRuntime) -> Resu
 }
 
 #[test]
-fn a_memory_sink_takes_pieces_until_it_is_full_and_fails_as_told(
+fn a_memory_sink_takes_pieces_until_it_is_full_and_fails_where_named(
     rt: HostRuntime,
 ) -> Result<(), Fail> {
     let mut sink = MemorySink::new(rt.alloc(), 5, 3)?;
@@ -56,14 +56,39 @@ fn a_memory_sink_takes_pieces_until_it_is_full_and_fails_as_told(
 }
 
 #[test]
-fn a_whole_text_is_written_over_short_puts(rt: HostRuntime) -> Result<(), Fail> {
-    let mut sink = MemorySink::new(rt.alloc(), 64, 2)?;
-    assert_eq!(rt; write_whole(&mut sink, b"hello"), Ok(()));
-    assert_eq!(rt; write_whole(&mut sink, b""), Ok(()));
-    assert_eq!(rt; sink.held(), b"hello".as_slice());
-    assert_eq!(rt; sink.fail_at(5), Ok(()));
-    assert_eq!(rt; write_whole(&mut sink, b" world"), Err(WriteFault));
-    assert_eq!(rt; sink.held(), b"hello w".as_slice());
+fn each_put_is_handed_all_that_is_left(rt: HostRuntime) -> Result<(), Fail> {
+    let mut at_once = MemorySink::new(rt.alloc(), 64, 64)?;
+    at_once.fail_at(2)?;
+    assert_eq!(rt; write_whole(&mut at_once, b"hello"), Ok(()));
+    assert_eq!(rt; write_whole(&mut at_once, b""), Ok(()));
+    assert_eq!(rt; at_once.held(), b"hello".as_slice());
+    let mut in_three = MemorySink::new(rt.alloc(), 64, 2)?;
+    in_three.fail_at(4)?;
+    assert_eq!(rt; write_whole(&mut in_three, b"hello"), Ok(()));
+    assert_eq!(rt; in_three.held(), b"hello".as_slice());
+    let mut cut_off = MemorySink::new(rt.alloc(), 64, 2)?;
+    cut_off.fail_at(3)?;
+    assert_eq!(rt; write_whole(&mut cut_off, b"hello"), Err(WriteFault));
+    assert_eq!(rt; cut_off.held(), b"hell".as_slice());
+    Ok(())
+}
+
+#[test]
+fn each_take_has_room_for_a_long_piece_or_for_all_that_is_wanted(
+    rt: HostRuntime,
+) -> Result<(), Fail> {
+    for (length, limit, failing, want) in [
+        (5, 10000u32, 3, Ok(5)),
+        (5, 4, 2, Err(Fetch::TooLong)),
+        (4097, 10000, 4, Ok(4097)),
+        (4097, 10000, 3, Err(Fetch::Fault)),
+    ] {
+        let mut shelf = MemoryShelf::new(rt.alloc());
+        shelf.add("file", &vec![in rt.alloc(); 7u8; length]?)?;
+        shelf.fail_at(failing)?;
+        let read = length_read(rt.alloc(), &mut shelf, "file", limit.into());
+        assert_eq!(rt; read, want);
+    }
     Ok(())
 }
 
@@ -124,6 +149,98 @@ fn a_real_file_is_read_whole(rt: HostRuntime) -> Result<(), Fail> {
     Ok(())
 }
 
+/// What a file refuses.
+#[derive(Clone, Copy, PartialEq, Eq)]
+enum Refused {
+    Nothing,
+    Seek,
+    Read,
+}
+
+/// A file that gives at most three bytes a read.
+#[derive(Drop)]
+struct ShortFile<'a> {
+    bytes: &'a [u8],
+    position: usize,
+    refused: Refused,
+}
+
+impl Read for ShortFile<'_> {
+    fn read(&mut self, buf: &mut [u8]) -> io::Result<usize> {
+        if self.refused == Refused::Read {
+            return Err(io::Error::from(io::ErrorKind::StaleNetworkFileHandle));
+        }
+        let mut rest = &self.bytes[self.position.min(self.bytes.len())..];
+        let room = buf.len().min(3);
+        let count = rest.read(&mut buf[..room])?;
+        self.position = self.position.saturating_add(count);
+        Ok(count)
+    }
+}
+
+impl Seek for ShortFile<'_> {
+    fn seek(&mut self, to: SeekFrom) -> io::Result<u64> {
+        match to {
+            SeekFrom::Start(at) if self.refused != Refused::Seek => {
+                self.position = at as usize;
+                Ok(at)
+            }
+            _ => Err(io::Error::from(io::ErrorKind::NotSeekable)),
+        }
+    }
+}
+
+#[test]
+fn a_file_gives_each_byte_once_whatever_its_position(rt: HostRuntime) -> Result<(), Fail> {
+    let mut into = [0u8; 4];
+    let mut taken = Vec::new(rt.alloc());
+    let mut file = ShortFile {
+        bytes: b"0123456789",
+        position: 7,
+        refused: Refused::Nothing,
+    };
+    for want in [3, 3, 3, 1, 0] {
+        let at = taken.len() as u64;
+        let count = seek_and_read(&mut file, at, &mut into)?;
+        taken.extend_from_slice(&into[..count])?;
+        assert_eq!(rt; count, want);
+        assert_eq!(rt; file.position, taken.len());
+    }
+    assert_eq!(rt; taken.as_slice(), b"0123456789".as_slice());
+    for refused in [Refused::Seek, Refused::Read] {
+        file.refused = refused;
+        assert!(rt; seek_and_read(&mut file, 0, &mut into).is_err());
+    }
+    Ok(())
+}
+
+/// A writer that takes at most two bytes a call. Its journal has the bytes that it took, and a bar for each flush.
+#[derive(Drop)]
+struct ShortWriter {
+    journal: Vec<u8>,
+}
+
+impl Write for ShortWriter {
+    fn write(&mut self, buf: &[u8]) -> io::Result<usize> {
+        self.journal.write(&buf[..buf.len().min(2)])
+    }
+
+    fn flush(&mut self) -> io::Result<()> {
+        self.journal.write_all(b"|")
+    }
+}
+
+#[test]
+fn a_stream_is_flushed_after_each_write_and_is_written_each_byte_once(rt: HostRuntime) {
+    let mut writer = ShortWriter {
+        journal: Vec::new(rt.alloc()),
+    };
+    let mut sink = StreamSink::new(&mut writer);
+    assert_eq!(rt; sink.put(b"hello"), Ok(2));
+    assert_eq!(rt; write_whole(&mut sink, b"llo"), Ok(()));
+    assert_eq!(rt; writer.journal.as_slice(), b"he|ll|o|".as_slice());
+}
+
 /// A writer of whose calls one refuses or takes nothing.
 #[derive(Drop)]
 enum Refusal {
@@ -150,7 +267,7 @@ impl Write for Refusal {
 }
 
 #[test]
-fn the_standard_streams_take_a_whole_text_and_count_each_refusal(rt: HostRuntime) {
+fn the_standard_streams_take_a_whole_text_and_each_refusal_is_a_failure(rt: HostRuntime) {
     assert_eq!(rt;
         write_whole(&mut OutSink::new(rt.stdout()), b"out\n"),
         Ok(())
@@ -159,9 +276,7 @@ fn the_standard_streams_take_a_whole_text_and_count_each_refusal(rt: HostRuntime
         write_whole(&mut ErrSink::new(rt.stderr()), b"err\n"),
         Ok(())
     );
-    for mut writer in [Refusal::Write, Refusal::Flush, Refusal::Take] {
-        let mut faults = 1;
-        assert_eq!(rt; put_through(&mut writer, &mut faults, b"ab"), Err(Failed));
-        assert_eq!(rt; faults, 2);
+    for refusal in [Refusal::Write, Refusal::Flush, Refusal::Take] {
+        assert_eq!(rt; StreamSink::new(refusal).put(b"ab"), Err(Failed));
     }
 }

@@ -1,5 +1,5 @@
 // Whole files in and whole texts out, over any shelf and any sink.
-ghost use Rattle.std.specs.Prelude.{◌≡◌, ◌≢◌, ℕ, ◌+◌, ◌^◌, ◌<◌, ◌≤◌, ◌++◌, List, length, take, IfOk, OnOk, OnErr, IsErrOf, vec_len};
+ghost use Rattle.std.specs.Prelude.{◌≡◌, ◌≢◌, ℕ, ◌+◌, ◌-◌, ◌^◌, ◌<◌, ◌≤◌, ◌++◌, List, length, take, IfOk, OnOk, OnErr, IsErrOf, vec_len};
 ghost use Rattle.psi_edges.specs.Causes.{HasCause, Rose, raised};
 ghost use Rattle.psi_edges.specs.Files.{OnFile, IsNext};
 ghost use Rattle.psi_edges.specs.Held.{Appends, AppendsFront};
@@ -42,11 +42,15 @@ pub fn read_whole<F: Shelf>(
     // When the other errors come.
     ensures fault { IsErrOf result Fetch.Fault →
         Rose (F.faults shelf.old) (F.faults shelf.new) × (F.failed_name shelf.new ≡ name.now) }
-    ensures counted { IsErrOf result Fetch.TooLong → raised (F.given shelf.old) (limit + 1) ≤ F.given shelf.new }
+    // How many bytes were given.
+    ensures given { IfOk result (λ bytes. F.given shelf.new ≡ raised (F.given shelf.old) (vec_len bytes)) }
+    ensures counted { IsErrOf result Fetch.TooLong → F.given shelf.new ≡ raised (F.given shelf.old) (limit + 1) }
+    ensures more_given { F.given shelf.old ≤ F.given shelf.new }
+    ensures most_given { F.given shelf.new ≤ raised (F.given shelf.old) (limit + 1) }
     // What stays.
+    ensures faults { result ≢ Err Fetch.Fault → F.faults shelf.new ≡ F.faults shelf.old }
     ensures failed_name { result ≢ Err Fetch.Fault → F.failed_name shelf.new ≡ F.failed_name shelf.old }
     ensures later { F.faults shelf.old ≤ F.faults shelf.new }
-    ensures more_given { F.given shelf.old ≤ F.given shelf.new }
     ensures unchanged { F.files shelf.new ≡ F.files shelf.old }
 {
     let most = limit + 1;
@@ -76,12 +80,14 @@ fn take_piece<F: Shelf>(
     ensures within { OnOk result (vec_len bytes.new ≤ most) }
     ensures grown { IfOk result (λ count. vec_len bytes.new ≡ vec_len bytes.old + count) }
     ensures given { IfOk result (λ count. F.given shelf.new ≡ raised (F.given shelf.old) count) }
+    ensures more_given { F.given shelf.old ≤ F.given shelf.new }
+    ensures most_given { F.given shelf.new ≤ raised (F.given shelf.old) (most - vec_len bytes.old) }
     ensures fits { result ≢ Err Fetch.TooLong }
     ensures fault { IsErrOf result Fetch.Fault →
         Rose (F.faults shelf.old) (F.faults shelf.new) × (F.failed_name shelf.new ≡ name.now) }
+    ensures faults { result ≢ Err Fetch.Fault → F.faults shelf.new ≡ F.faults shelf.old }
     ensures failed_name { result ≢ Err Fetch.Fault → F.failed_name shelf.new ≡ F.failed_name shelf.old }
     ensures later { F.faults shelf.old ≤ F.faults shelf.new }
-    ensures more_given { F.given shelf.old ≤ F.given shelf.new }
     ensures unchanged { F.files shelf.new ≡ F.files shelf.old }
 {
     let mut piece = [0u8; PIECE];

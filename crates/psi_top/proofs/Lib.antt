@@ -1,3 +1,3 @@
+pub mod AnswerLemmas
 pub mod OutcomeLemmas
 pub mod PairLemmas
-pub mod RefusalLemmas

@@ -5,6 +5,10 @@ pub record IsCompile (words : List (List ℕ)) (name : List ℕ) : Type 0 where
   pub form : words ≡ codes "compile" ∷ name ∷ []
   pub short : length name ≤ 4096
 
+-- the words are no command
+abbrev pub IsMisuse : List (List ℕ) → Type 0
+IsMisuse words = (name : List ℕ) → IsCompile words name → ⊥
+
 -- the lines that refusals put to the error sink
 abbrev pub usage_line : List ℕ
 usage_line = codes "usage: psic compile FILE\n"

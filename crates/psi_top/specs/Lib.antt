@@ -1,3 +1,6 @@
+pub mod Answer
+pub mod Builds
 pub mod Command
 pub mod Outcome
-pub mod Refusal
+pub mod Put
+pub mod Views

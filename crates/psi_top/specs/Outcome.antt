@@ -1,63 +1,57 @@
-use Rattle.std.specs.Prelude.{ℕ, ◌≡◌, ◌≤◌, ◌+◌, ◌*◌, ◌⊎◌, IsTrue, List, length, Option}
-use Rattle.std.specs.List.{list_all}
-use Rattle.psi_edges.specs.Causes.{Rose}
-use Rattle.psi_edges.specs.Files.{Files, OnFile}
-use Rattle.psi_edges.specs.Held.{Appends, AppendsFront}
-use Rattle.rv_steps.specs.Good.{IsStart}
-use Rattle.rv_steps.specs.GoodText.{IsGood}
-use Rattle.rv_steps.specs.Kinds.{is_base, is_free}
-use Rattle.rv_steps.specs.Machine.{Config}
-use Rattle.rv_line.specs.Parts.{Parts}
-use Rattle.rv_steps.specs.Stops.{Ends}
-use Rattle.psi_top.specs.Command.{IsCompile, usage_line, cannot_read_line, no_memory_line, not_built_line}
-use Rattle.vector_sum.specs.Kernel.{areas_of}
-use Rattle.vector_sum.specs.Meaning.{demand}
+-- What a call comes to.
+use Rattle.std.specs.Prelude.{ℕ, ◌≡◌, ◌⊎◌, min, List, [], length, Option, Some, None}
+use Rattle.std.specs.FinMap.{get}
+use Rattle.psi_edges.specs.Causes.{Rose, raised}
+use Rattle.psi_edges.specs.Files.{Files}
+use Rattle.psi_top.specs.Builds.{IsCompiled, IsUnread}
+use Rattle.psi_top.specs.Command.{IsCompile, IsMisuse, usage_line, cannot_read_line, no_memory_line, not_built_line}
+use Rattle.psi_top.specs.Views.{ShelfView}
 use Rattle.vector_sum.specs.Source.{Reads}
 use Rattle.vector_sum.specs.declared.source.VectorSum.{VectorSum}
 
--- the source is of no sum of two vectors
-abbrev pub IsUnread : List ℕ → Type 0
-IsUnread source = (v : VectorSum) → Reads source v → ⊥
+-- what a call comes to: a refusal by its status and its line, or a text that is good for a program
+pub data Outcome : Type 0 where
+  Refuses : (status : ℕ) → (line : List ℕ) → Outcome
+  Compiles : (sum : VectorSum) → Outcome
 
--- The program is small for its extent. The first three bounds hold for every form that will be built, the others
--- for this one: eight steps an element and at most 16 besides, no spill word, no line of the M extension, no line
--- that writes a register which a callee gives back as it found it, and the steps of every run are those printed.
-pub record IsSmall (extent : ℕ) (program : Parts) : Type 0 where
-  pub lines : length program.lines ≤ 19200
-  pub spill : program.header.spill ≤ 40
-  pub steps : program.header.steps ≤ 4096 * (1 + extent)
-  pub few_steps : program.header.steps ≤ 16 + 8 * extent
-  pub no_spill : program.header.spill ≡ 0
-  pub no_multiplication : IsTrue (list_all is_base program.lines)
-  pub free_registers : IsTrue (list_all is_free program.lines)
-  pub exact_steps : (base : ℕ) (c : Config) → IsStart program.header program.areas program.lines base c → (last : Config) × Ends program.lines base program.header.steps c last
+-- its status where no put fails
+abbrev pub status_of : Outcome → ℕ
+status_of (Refuses status line) = status
+status_of (Compiles sum) = 0
 
--- the text is what `compile` makes of a source
-pub record Builds (source text : List ℕ) : Type 0 where
-  pub sum : VectorSum
-  pub read : Reads source sum
-  pub good : IsGood text (areas_of sum) demand
-  pub small : IsSmall sum.extent good.program
+-- the line that it puts to the sink of errors, which is none where a text is compiled
+abbrev pub line_of : Outcome → List ℕ
+line_of (Refuses status line) = line
+line_of (Compiles sum) = []
 
--- the text is what `compile` makes of a file of this name: where the shelf tells its files, of the source that it holds
-pub record Compiles (told : Option Files) (name text : List ℕ) : Type 0 where
-  pub sum : VectorSum
-  pub read : OnFile told name (λ source. Reads source sum)
-  pub good : IsGood text (areas_of sum) demand
-  pub small : IsSmall sum.extent good.program
+-- what it may put to the sink of texts
+abbrev pub IsTextOf : Outcome → List ℕ → Type 0
+IsTextOf (Refuses status line) text = text ≡ []
+IsTextOf (Compiles sum) text = IsCompiled sum text
 
--- a put of these bytes failed in this call, and the sink holds a front of them more
-pub record FailsAt (before now : Option (List ℕ)) (faults_before faults_now : ℕ) (bytes : List ℕ) : Type 0 where
-  pub rose : Rose faults_before faults_now
-  pub front : AppendsFront before now bytes
+-- the greatest number of bytes that are read of a file, one more than a source may have
+abbrev pub most_read : ℕ
+most_read = 1048577
 
--- a line was put whole, or a put of it failed
-abbrev pub IsTold : Option (List ℕ) → Option (List ℕ) → ℕ → ℕ → List ℕ → Type 0
-IsTold before now faults_before faults_now line = Appends before now line ⊎ FailsAt before now faults_before faults_now line
+-- what these words come to over these files, and how many bytes of the named file are read for it, where nothing fails and there is memory
+pub data IsOutcome (words : List (List ℕ)) (files : Files) : Outcome → ℕ → Type 0 where
+  usage : IsMisuse words → IsOutcome words files (Refuses 1 usage_line) 0
+  missing : {name : List ℕ} → IsCompile words name → get files name ≡ None → IsOutcome words files (Refuses 2 (cannot_read_line name)) 0
+  not_built : {name source : List ℕ} → IsCompile words name → get files name ≡ Some source → IsUnread source → IsOutcome words files (Refuses 11 (not_built_line name)) (min (length source) most_read)
+  compiled : {name source : List ℕ} {sum : VectorSum} → IsCompile words name → get files name ≡ Some source → Reads source sum → IsOutcome words files (Compiles sum) (length source)
 
--- the line of a refusal, with its cause
-pub data IsDue (words : List (List ℕ)) (told : Option Files) (faults_before faults_now : ℕ) (failed_name : List ℕ) : List ℕ → Type 0 where
-  usage : ((name : List ℕ) → IsCompile words name → ⊥) → IsDue words told faults_before faults_now failed_name usage_line
-  cannot_read : {name : List ℕ} → IsCompile words name → Rose faults_before faults_now → failed_name ≡ name → IsDue words told faults_before faults_now failed_name (cannot_read_line name)
-  no_memory : IsDue words told faults_before faults_now failed_name no_memory_line
-  not_built : {name : List ℕ} → IsCompile words name → OnFile told name IsUnread → IsDue words told faults_before faults_now failed_name (not_built_line name)
+-- these are the files of a shelf, where it tells them
+abbrev pub AreFiles : Option Files → Files → Type 0
+AreFiles None files = Unit {0}
+AreFiles (Some told) files = told ≡ files
+
+-- so many bytes were given: a count rose by them, or there were none and it stands as before
+abbrev pub IsGiven : ℕ → ℕ → ℕ → Type 0
+IsGiven before now read = (now ≡ raised before read) ⊎ ((read ≡ 0) × (now ≡ before))
+
+-- what is due in a call that finds a shelf as `old` and leaves it as `new`: what the words come to over its files, where no read failed; that
+-- the named file cannot be read, where a read of it failed; or want of memory
+pub data IsDue (words : List (List ℕ)) (old new : ShelfView) : Outcome → Type 0 where
+  over_files : {files : Files} {read : ℕ} {outcome : Outcome} → AreFiles old.files files → IsOutcome words files outcome read → IsGiven old.given new.given read → new.faults ≡ old.faults → IsDue words old new outcome
+  cannot_read : {name : List ℕ} → IsCompile words name → Rose old.faults new.faults → new.failed_name ≡ name → IsDue words old new (Refuses 2 (cannot_read_line name))
+  no_memory : {name : List ℕ} → IsCompile words name → IsDue words old new (Refuses 10 no_memory_line)

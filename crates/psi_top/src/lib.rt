@@ -1,8 +1,14 @@
 // The commands of the program, over a shelf of files and two sinks.
 #![tactic(auto)]
 
+mod command;
+mod laws;
 mod program;
+mod refusal;
+mod start;
 #[cfg(test)]
 mod tests;
 
+pub use laws::one_outcome;
 pub use program::psi;
+pub use start::run;

@@ -1,14 +1,17 @@
 // The commands of the program.
-ghost use Rattle.std.specs.Prelude.{◌≡◌, ◌≢◌, ℕ, ◌≤◌, ◌⊎◌, List, [], ◌∷◌, length, map, codes, IfOk, IfErr, IsErrOf, MatchOption, OnOk, OnErr, IfSome, IfNone, string_bytes, Contains, IsTrue, ◌↔◌};
+ghost use Rattle.std.specs.Prelude.{◌≡◌, ◌≢◌, ℕ, ◌+◌, ◌≤◌, ◌⊎◌, List, [], ◌∷◌, length, map, IfOk, IfSome, IfNone, IsSomeAnd, string_bytes, Contains};
 ghost use Rattle.psi_edges.specs.Causes.{Rose};
-ghost use Rattle.psi_edges.specs.Files.{LacksFile, OnFile, TellsFile};
-ghost use Rattle.psi_edges.specs.Held.{Appends, AppendsFront};
-ghost use Rattle.psi_top.specs.Command.{IsCompile, usage_line, cannot_read_line, cannot_write_line, no_memory_line, not_built_line};
-ghost use Rattle.psi_top.specs.Refusal.{Explains, IsCause, line_of, status_of};
-ghost use Rattle.psi_top.specs.Outcome.{Builds, Compiles, FailsAt, IsDue, IsTold, IsUnread};
-ghost use Rattle.vector_sum.specs.Source.{Reads};
-ghost use Rattle.vector_sum.specs.declared.source.VectorSum.{VectorSum};
+ghost use Rattle.psi_edges.specs.Files.{OnFile};
+ghost use Rattle.psi_edges.specs.Held.{Appends};
+ghost use Rattle.psi_top.specs.Answer.{IsAnswer, IsPublished};
+ghost use Rattle.psi_top.specs.Builds.{Builds, IsUnread};
+ghost use Rattle.psi_top.specs.Command.{IsCompile, IsMisuse};
+ghost use Rattle.psi_top.specs.Outcome.{IsDue, IsOutcome, IsTextOf, Outcome, line_of, most_read, status_of};
+ghost use Rattle.psi_top.specs.Put.{IsPut};
+ghost use Rattle.psi_top.specs.Views.{shelf_view, sink_view};
 
+use crate::command::{Command, command_of};
+use crate::refusal::{CANNOT_WRITE_STATUS, Refusal, put_line, refuse};
 use psi_edges::{Fetch, Shelf, Sink, WriteFault, read_whole, write_whole};
 use rv_line::spelling_laws::texts_spell_one;
 use rv_line::text;
@@ -19,58 +22,7 @@ use vector_sum::{kernel, recognise, sources_are_short};
 /// The greatest number of bytes in a source.
 const LONGEST_SOURCE: u64 = 1048576;
 
-/// The greatest number of bytes in the name of a file.
-const LONGEST_NAME: usize = 4096;
-
-const USAGE_STATUS: u8 = 1;
-
-const CANNOT_WRITE_STATUS: u8 = 3;
-
-const NO_MEMORY_STATUS: u8 = 10;
-
-const USAGE: &[u8] = b"usage: psic compile FILE\n";
-
 const CANNOT_WRITE: &[u8] = b"psic: cannot write\n";
-
-const NO_MEMORY: &[u8] = b"psic: no memory\n";
-
-/// Why a file was not compiled.
-#[derive(Clone, Copy, Debug, PartialEq, Eq)]
-enum Refusal {
-    CannotRead,
-    NotBuilt,
-    Memory,
-}
-
-impl From<NoMemory> for Refusal {
-    ghost use Rattle.psi_top.specs.declared.program.Refusal.TheVariants.{Memory};
-
-    ghost from_gives = { λ _ refusal. refusal ≡ Memory };
-
-    fn from(_error: NoMemory) -> Refusal {
-        Refusal::Memory
-    }
-}
-
-fn is_compile(command: &str) -> bool
-    ensures { IsTrue result ↔ (command.now ≡ codes "compile") }
-{
-    command == "compile"
-}
-
-/// The name of the file that is to be compiled, where the words ask for that.
-fn file_to_compile(words: &[String]) -> Option<&str>
-    ensures { MatchOption result
-        ((name : List ℕ) → IsCompile (map string_bytes words.now) name → ⊥)
-        (λ name. IsCompile (map string_bytes words.now) name.now) }
-{
-    match words {
-        [command, name] if is_compile(command.as_str()) && name.len() <= LONGEST_NAME => {
-            Some(name.as_str())
-        }
-        _ => None,
-    }
-}
 
 /// The text for a source, or `None` where the source has none yet.
 fn text_for(alloc: Global, source: &[u8]) -> Result<Option<Vec<u8>>, NoMemory>
@@ -86,90 +38,80 @@ fn text_for(alloc: Global, source: &[u8]) -> Result<Option<Vec<u8>>, NoMemory>
 }
 
 /// The text for the file of this name.
-fn compile<F: Shelf>(alloc: Global, shelf: &mut F, name: &str) -> Result<Vec<u8>, Refusal>
+fn compile<'a, F: Shelf>(
+    alloc: Global,
+    shelf: &mut F,
+    name: &'a str,
+) -> Result<Vec<u8>, Refusal<'a>>
     requires { length name.now ≤ 4096 }
-    ensures built { IfOk result (λ text. Compiles (F.files shelf.old) name.now text.items) }
-    ensures refused { IfErr result (λ refusal. IsCause refusal
-        (F.files shelf.old) (F.faults shelf.old) (F.faults shelf.new) (F.failed_name shelf.new) name.now) }
+    ensures due { (words : List (List ℕ)) → IsCompile words name.now
+        → IsAnswer words (shelf_view F.Shelf shelf.old) (shelf_view F.Shelf shelf.new) result }
+    ensures unchanged { F.files shelf.new ≡ F.files shelf.old }
+    ensures later { F.faults shelf.old ≤ F.faults shelf.new }
+    ensures more_given { F.given shelf.old ≤ F.given shelf.new }
+    ensures most_given { F.given shelf.new ≤ F.given shelf.old + most_read }
 {
     sources_are_short();
     match read_whole(alloc, shelf, name, LONGEST_SOURCE) {
-        Err(Fetch::Fault) => Err(Refusal::CannotRead),
-        Err(Fetch::TooLong) => Err(Refusal::NotBuilt),
+        Err(Fetch::Fault) => Err(Refusal::CannotRead(name)),
+        Err(Fetch::TooLong) => Err(Refusal::NotBuilt(name)),
         Err(Fetch::Memory) => Err(Refusal::Memory),
         Ok(source) => match text_for(alloc, &source) {
             Ok(Some(text)) => Ok(text),
-            Ok(None) => Err(Refusal::NotBuilt),
+            Ok(None) => Err(Refusal::NotBuilt(name)),
             Err(NoMemory) => Err(Refusal::Memory),
         },
     }
 }
 
-/// The line that says why a file was not compiled.
-fn line_for(alloc: Global, refusal: Refusal, name: &str) -> Result<Vec<u8>, NoMemory>
-    ensures { IfOk result (λ line. line.items ≡ line_of refusal name.now) }
+/// What the words come to: a text to be put, or a refusal.
+fn answer_to<'a, F: Shelf>(
+    alloc: Global,
+    words: &'a [String],
+    shelf: &mut F,
+) -> Result<Vec<u8>, Refusal<'a>>
+    ensures due { IsAnswer (map string_bytes words.now)
+        (shelf_view F.Shelf shelf.old) (shelf_view F.Shelf shelf.new) result }
+    ensures unchanged { F.files shelf.new ≡ F.files shelf.old }
+    ensures later { F.faults shelf.old ≤ F.faults shelf.new }
+    ensures more_given { F.given shelf.old ≤ F.given shelf.new }
+    ensures most_given { F.given shelf.new ≤ F.given shelf.old + most_read }
 {
-    let mut line = Vec::new(alloc);
-    match refusal {
-        Refusal::CannotRead => {
-            line.extend_from_slice(b"psic: cannot read ")?;
-            line.extend_from_slice(name.as_bytes())?;
-            line.extend_from_slice(b"\n")?;
-        }
-        Refusal::NotBuilt => {
-            line.extend_from_slice(name.as_bytes())?;
-            line.extend_from_slice(b":1:1: not built\n")?;
-        }
-        Refusal::Memory => line.extend_from_slice(NO_MEMORY)?,
+    match command_of(words) {
+        None => Err(Refusal::Usage),
+        Some(Command::Compile(name)) => compile(alloc, shelf, name),
     }
-    Ok(line)
 }
 
 /// Puts the text, or says that it cannot be put. Answers the status.
-fn publish<K: Sink, E: Sink>(out: &mut K, err: &mut E, text: &[u8]) -> u8
-    ensures done { result ≢ 3 → (result ≡ 0) × Appends (K.held out.old) (K.held out.new) text.now
-        × (E.held err.new ≡ E.held err.old) }
-    ensures cut { result ≡ 3 → FailsAt (K.held out.old) (K.held out.new) (K.faults out.old) (K.faults out.new) text.now
-        × IsTold (E.held err.old) (E.held err.new) (E.faults err.old) (E.faults err.new) cannot_write_line }
+fn put_text<K: Sink, E: Sink>(out: &mut K, err: &mut E, text: &[u8]) -> u8
+    ensures put { (outcome : Outcome) → IsTextOf outcome text.now → status_of outcome ≡ 0 → line_of outcome ≡ []
+        → IsPut outcome (sink_view K.Sink out.old) (sink_view K.Sink out.new)
+        (sink_view E.Sink err.old) (sink_view E.Sink err.new) result }
+    ensures out_later { K.faults out.old ≤ K.faults out.new }
+    ensures err_later { E.faults err.old ≤ E.faults err.new }
 {
     match write_whole(out, text) {
         Ok(()) => 0,
-        Err(WriteFault) => refuse(err, CANNOT_WRITE_STATUS, CANNOT_WRITE),
+        Err(WriteFault) => put_line(err, CANNOT_WRITE_STATUS, CANNOT_WRITE),
     }
 }
 
-/// Puts the line of a refusal. Answers its status, or that the line cannot be put.
-fn refuse<E: Sink>(err: &mut E, status: u8, line: &[u8]) -> u8
-    ensures told { result ≢ 3 → (result ≡ status) × Appends (E.held err.old) (E.held err.new) line.now }
-    ensures cut { status ≢ 3 → result ≡ 3
-        → FailsAt (E.held err.old) (E.held err.new) (E.faults err.old) (E.faults err.new) line.now }
-    ensures either { IsTold (E.held err.old) (E.held err.new) (E.faults err.old) (E.faults err.new) line.now }
-    ensures status { (result ≡ status) ⊎ (result ≡ 3) }
+/// Puts what was answered, the text to `out` or the line of the refusal to `err`. Answers the status.
+fn publish<K: Sink, E: Sink>(
+    alloc: Global,
+    out: &mut K,
+    err: &mut E,
+    answer: Result<Vec<u8>, Refusal<'_>>,
+) -> u8
+    ensures put { IsPublished answer.entry (sink_view K.Sink out.old) (sink_view K.Sink out.new)
+        (sink_view E.Sink err.old) (sink_view E.Sink err.new) result }
+    ensures out_later { K.faults out.old ≤ K.faults out.new }
+    ensures err_later { E.faults err.old ≤ E.faults err.new }
 {
-    match write_whole(err, line) {
-        Ok(()) => status,
-        Err(WriteFault) => CANNOT_WRITE_STATUS,
-    }
-}
-
-/// The status of a refusal.
-fn status_of(refusal: Refusal) -> u8
-    ensures { result ≡ status_of refusal }
-{
-    match refusal {
-        Refusal::CannotRead => 2,
-        Refusal::NotBuilt => 11,
-        Refusal::Memory => 10,
-    }
-}
-
-/// Says why a file was not compiled, or that there is no memory to say it.
-fn explain<E: Sink>(alloc: Global, err: &mut E, refusal: Refusal, name: &str) -> u8
-    ensures { Explains refusal name.now (E.held err.old) (E.held err.new) (E.faults err.old) (E.faults err.new) result }
-{
-    match line_for(alloc, refusal, name) {
-        Ok(line) => refuse(err, status_of(refusal), &line),
-        Err(NoMemory) => refuse(err, NO_MEMORY_STATUS, NO_MEMORY),
+    match answer {
+        Ok(text) => put_text(out, err, &text),
+        Err(refusal) => refuse(alloc, err, refusal),
     }
 }
 
@@ -193,55 +135,39 @@ pub fn psi<F: Shelf, K: Sink, E: Sink>(
     out: &mut K,
     err: &mut E,
 ) -> u8
-    ensures done { result ≡ 0 → (name : List ℕ) × (text : List ℕ)
+    // What is due is put, with its status, or a put of it failed.
+    ensures answered { (outcome : Outcome)
+        × IsDue (map string_bytes words.now) (shelf_view F.Shelf shelf.old) (shelf_view F.Shelf shelf.new) outcome
+        × IsPut outcome (sink_view K.Sink out.old) (sink_view K.Sink out.new)
+        (sink_view E.Sink err.old) (sink_view E.Sink err.new) result }
+    // At 0 the text is that of the named file.
+    ensures compiled { result ≡ 0 → (name : List ℕ) × (text : List ℕ)
         × IsCompile (map string_bytes words.now) name
-        × Compiles (F.files shelf.old) name text
+        × OnFile (F.files shelf.old) name (λ source. Builds source text)
         × Appends (K.held out.old) (K.held out.new) text
         × (E.held err.new ≡ E.held err.old) }
-    ensures usage { result ≡ 1 → ((name : List ℕ) → IsCompile (map string_bytes words.now) name → ⊥)
-        × Appends (E.held err.old) (E.held err.new) usage_line }
-    ensures cannot_read { result ≡ 2 → (name : List ℕ)
-        × IsCompile (map string_bytes words.now) name
-        × Rose (F.faults shelf.old) (F.faults shelf.new)
-        × (F.failed_name shelf.new ≡ name)
-        × Appends (E.held err.old) (E.held err.new) (cannot_read_line name) }
-    ensures no_memory { result ≡ 10 → Appends (E.held err.old) (E.held err.new) no_memory_line }
-    ensures not_built { result ≡ 11 → (name : List ℕ)
-        × IsCompile (map string_bytes words.now) name
-        × OnFile (F.files shelf.old) name IsUnread
-        × Appends (E.held err.old) (E.held err.new) (not_built_line name) }
+    // Where no call of the outside fails and there is memory, the status is that of the outcome.
+    ensures complete { (outcome : Outcome) (read : ℕ)
+        → IsSomeAnd (F.files shelf.old) (λ files. IsOutcome (map string_bytes words.now) files outcome read)
+        → ¬ Rose (F.faults shelf.old) (F.faults shelf.new) ⊎ (status_of outcome ≡ 2)
+        → ¬ Rose (K.faults out.old) (K.faults out.new) → ¬ Rose (E.faults err.old) (E.faults err.new)
+        → (result ≡ status_of outcome) ⊎ (result ≡ 10) }
+    // Words that are no command take no memory.
+    ensures misuse { IsMisuse (map string_bytes words.now)
+        → (result ≡ 1) ⊎ ((result ≡ 3) × Rose (E.faults err.old) (E.faults err.new)) }
     ensures quiet { result ≢ 0 → result ≢ 3 → K.held out.new ≡ K.held out.old }
-    // At 3 a put failed: of the text, or of a line that was due.
-    ensures cannot_write { result ≡ 3 → ((name : List ℕ) × (text : List ℕ)
-        × IsCompile (map string_bytes words.now) name
-        × Compiles (F.files shelf.old) name text
-        × FailsAt (K.held out.old) (K.held out.new) (K.faults out.old) (K.faults out.new) text
-        × IsTold (E.held err.old) (E.held err.new) (E.faults err.old) (E.faults err.new) cannot_write_line)
-        ⊎ ((line : List ℕ)
-        × IsDue (map string_bytes words.now) (F.files shelf.old)
-        (F.faults shelf.old) (F.faults shelf.new) (F.failed_name shelf.new) line
-        × FailsAt (E.held err.old) (E.held err.new) (E.faults err.old) (E.faults err.new) line
-        × (K.held out.new ≡ K.held out.old)) }
+    // A failed put answers 3, and a failed read 2 or 3, or 10 where there is no memory for its line.
+    ensures puts_counted { result ≢ 3
+        → (K.faults out.new ≡ K.faults out.old) × (E.faults err.new ≡ E.faults err.old) }
+    ensures reads_counted { result ≢ 2 → result ≢ 3 → result ≢ 10 → F.faults shelf.new ≡ F.faults shelf.old }
     ensures statuses { Contains (0 ∷ 1 ∷ 2 ∷ 3 ∷ 10 ∷ 11 ∷ []) result }
-    // Each status comes wherever its cause holds, no call of the outside fails and there is memory.
-    ensures misuse { ((name : List ℕ) → IsCompile (map string_bytes words.now) name → ⊥)
-        → ¬ Rose (E.faults err.old) (E.faults err.new) → result ≡ 1 }
-    ensures missing { (name : List ℕ) → IsCompile (map string_bytes words.now) name → LacksFile (F.files shelf.old) name
-        → ¬ Rose (E.faults err.old) (E.faults err.new) → (result ≡ 2) ⊎ (result ≡ 10) }
-    ensures complete { (name source : List ℕ) (sum : VectorSum) → IsCompile (map string_bytes words.now) name
-        → TellsFile (F.files shelf.old) name source → Reads source sum
-        → ¬ Rose (F.faults shelf.old) (F.faults shelf.new) → ¬ Rose (K.faults out.old) (K.faults out.new)
-        → ¬ Rose (E.faults err.old) (E.faults err.new) → (result ≡ 0) ⊎ (result ≡ 10) }
-    ensures unread { (name source : List ℕ) → IsCompile (map string_bytes words.now) name
-        → TellsFile (F.files shelf.old) name source → IsUnread source
-        → ¬ Rose (F.faults shelf.old) (F.faults shelf.new)
-        → ¬ Rose (E.faults err.old) (E.faults err.new) → (result ≡ 11) ⊎ (result ≡ 10) }
+    // What it leaves: the same files, counts that never fall, and at most so many bytes given.
+    ensures unchanged { F.files shelf.new ≡ F.files shelf.old }
+    ensures later { (F.faults shelf.old ≤ F.faults shelf.new)
+        × (K.faults out.old ≤ K.faults out.new) × (E.faults err.old ≤ E.faults err.new) }
+    ensures given { (F.given shelf.old ≤ F.given shelf.new)
+        × (F.given shelf.new ≤ F.given shelf.old + most_read) }
 {
-    let Some(name) = file_to_compile(words) else {
-        return refuse(err, USAGE_STATUS, USAGE);
-    };
-    match compile(alloc, shelf, name) {
-        Ok(text) => publish(out, err, &text),
-        Err(refusal) => explain(alloc, err, refusal, name),
-    }
+    let answer = answer_to(alloc, words, shelf);
+    publish(alloc, out, err, answer)
 }

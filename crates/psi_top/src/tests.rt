@@ -16,24 +16,35 @@ struct Answer {
     err: Vec<u8>,
 }
 
-/// Calls the program with the words of this line, over a shelf and a sink for its text.
+/// Calls the program with the words of this line, over a shelf and two sinks.
+fn call_over(
+    alloc: Global,
+    line: &str,
+    shelf: &mut MemoryShelf,
+    out: &mut MemorySink,
+    err: &mut MemorySink,
+) -> Result<Answer, Fail> {
+    let mut owned = Vec::new(alloc);
+    for word in line.split_whitespace() {
+        owned.push(String::from_str(alloc, word)?)?;
+    }
+    let status = psi(alloc, &owned, shelf, out, err);
+    Ok(Answer {
+        status,
+        out: Vec::from_slice(alloc, out.held())?,
+        err: Vec::from_slice(alloc, err.held())?,
+    })
+}
+
+/// The same over a sink for lines that does not fail.
 fn call(
     alloc: Global,
     line: &str,
     shelf: &mut MemoryShelf,
     out: &mut MemorySink,
 ) -> Result<Answer, Fail> {
-    let mut owned = Vec::new(alloc);
-    for word in line.split_whitespace() {
-        owned.push(String::from_str(alloc, word)?)?;
-    }
     let mut err = MemorySink::new(alloc, 8192, 8192)?;
-    let status = psi(alloc, &owned, shelf, out, &mut err);
-    Ok(Answer {
-        status,
-        out: Vec::from_slice(alloc, out.held())?,
-        err: Vec::from_slice(alloc, err.held())?,
-    })
+    call_over(alloc, line, shelf, out, &mut err)
 }
 
 /// Compiles a source that the shelf has as `p.moa`.
@@ -191,5 +202,18 @@ fn a_sink_that_fails_holds_a_front_of_the_text(rt: HostRuntime) -> Result<(), Fa
     assert_eq!(rt; answer.status, 3);
     assert_eq!(rt; answer.out.as_slice(), b"# psi 1\n# ".as_slice());
     assert_eq!(rt; answer.err.as_slice(), b"psic: cannot write\n".as_slice());
+    Ok(())
+}
+
+#[test]
+fn a_line_that_cannot_be_put_is_not_tried_again(rt: HostRuntime) -> Result<(), Fail> {
+    let mut shelf = MemoryShelf::new(rt.alloc());
+    let mut out = MemorySink::new(rt.alloc(), 64, 64)?;
+    let mut err = MemorySink::new(rt.alloc(), 64, 64)?;
+    err.fail_at(1)?;
+    let answer = call_over(rt.alloc(), "", &mut shelf, &mut out, &mut err)?;
+    assert_eq!(rt; answer.status, 3);
+    assert_eq!(rt; answer.out.len(), 0);
+    assert_eq!(rt; answer.err.len(), 0);
     Ok(())
 }

@@ -1,4 +1,4 @@
-use Rattle.std.proofs.Common.{◌≡◌, ℕ, ◌+◌, ◌<◌, ◌≤◌, ◌^◌, List, [], ◌∷◌, ◌++◌, length, refl, sym, ap, ◌∙◌, inl, inr, arith, append_assoc}
+use Rattle.std.proofs.Common.{◌≡◌, ℕ, ◌+◌, ◌<◌, ◌≤◌, ◌^◌, List, [], ◌∷◌, ◌++◌, length, refl, sym, ap, ◌∙◌, inl, inr, arith, append_assoc, add-zero}
 use Rattle.std.specs.Prelude.{Bool, true, false, ◌≢◌, Option, Some, None, IfSome, IsTrue, codes, Contains, AllPairs, map, if◌then◌else◌}
 use Rattle.std.specs.Fmt.{decimal}
 use Rattle.std.specs.List.{list_all, list_any, AllByRecursion}
@@ -12,7 +12,7 @@ use Rattle.std.proofs.lemmas.List.Elements.{All-from_recursion, Contains-append_
 use Rattle.std.proofs.lemmas.List.Folds.{list_any-append}
 use Rattle.std.proofs.lemmas.List.Kept.{AllPairs-cons}
 use Rattle.std.proofs.lemmas.Str.Parse.{digit_from_value}
-use Rattle.rv_line.specs.Emitted.{label_name, label_text, lines_text, instruction_text, target_of, has_target, is_labelled}
+use Rattle.rv_line.specs.Emitted.{label_name, label_text, lines_text, instruction_text, target_of, has_target, is_labelled, places_from}
 use Rattle.rv_line.specs.Fits.{FitLines}
 use Rattle.rv_line.specs.Instructions.{Says, IsLabel, is_label_byte}
 use Rattle.rv_line.specs.Labels.{TargetsWithin}
@@ -81,23 +81,22 @@ digits_label (byte ∷ bytes) all =
 IsLabel-label_name : (number : ℕ) → number < 2 ^ 64 → IsLabel (label_name number)
 IsLabel-label_name number small = digits_label (decimal number) (decimal_is_IsNumeral number small).0.1
 
-spelled_label : (labels : List (List ℕ × ℕ)) (labelled : Bool) (at : ℕ) (texts : List (List ℕ)) (program : List Line) (defined : List (List ℕ × ℕ)) → at < 2 ^ 64 → SpellLines labels texts at program defined → SpellLines labels (label_lines labelled at ++ texts) at program (label_defined labelled at ++ defined)
-spelled_label labels true at texts program defined small rest = label (label_name at) (Says-itself [] (label_name at ++ codes ":") refl) (IsLabel-label_name at small) rest
-spelled_label labels false at texts program defined small rest = rest
+spelled_label : (labels : List (List ℕ × ℕ)) (labelled : Bool) (next at : ℕ) (texts : List (List ℕ)) (program : List Line) (places : List ℕ) (defined : List (List ℕ × ℕ)) → at < 2 ^ 64 → SpellLines labels texts (next + (if labelled then 1 else 0)) at program places defined → SpellLines labels (label_lines labelled at ++ texts) next at program places (label_defined labelled at ++ defined)
+spelled_label labels true next at texts program places defined small rest = label (label_name at) (Says-itself [] (label_name at ++ codes ":") refl) (IsLabel-label_name at small) rest
+spelled_label labels false next at texts program places defined small rest = rw (add-zero next) at rest
 
--- where a line goes has a label
 -- where a line goes has a label
 abbrev pub HasLabel : List (List ℕ × ℕ) → Line → Type 0
 HasLabel labels line = IfSome (target_of line) (λ target. Contains labels (label_name target, target))
 
-pub spelled_body : (labels : List (List ℕ × ℕ)) (labelled : ℕ → Bool) (count at : ℕ) (program : List Line) → count ≤ 2 ^ 30 → at + length program ≡ count → FitLines count at program → AllByRecursion (HasLabel labels) program → SpellLines labels (body_lines labelled at program) at program (labels_defined labelled at program)
-spelled_body labels labelled count at [] small is fit known =
-    let alone = spelled_label labels (labelled at) at [] [] [] (omega arith) end in
+pub spelled_body : (labels : List (List ℕ × ℕ)) (labelled : ℕ → Bool) (count next at : ℕ) (program : List Line) → count ≤ 2 ^ 30 → at + length program ≡ count → FitLines count at program → AllByRecursion (HasLabel labels) program → SpellLines labels (body_lines labelled at program) next at program (places_from labelled next at program) (labels_defined labelled at program)
+spelled_body labels labelled count next at [] small is fit known =
+    let alone = spelled_label labels (labelled at) next at [] [] [] [] (omega arith) end in
     rw (append-nil (label_lines (labelled at) at), append-nil (label_defined (labelled at) at)) at alone
-spelled_body labels labelled count at (line ∷ program) small is fit known =
-    spelled_label labels (labelled at) at _ _ _ (omega arith) (
+spelled_body labels labelled count next at (line ∷ program) small is fit known =
+    spelled_label labels (labelled at) next at _ _ _ _ (omega arith) (
     instruction (instruction_text line) (Says-itself (codes "    ") (instruction_text line) refl) (instruction_spelled labels count at line fit.0 known.0) (
-    spelled_body labels labelled count (at + 1) program small (omega arith) fit.1 known.1
+    spelled_body labels labelled count (next + (if labelled at then 1 else 0) + 1) (at + 1) program small (omega arith) fit.1 known.1
     )
     )
 

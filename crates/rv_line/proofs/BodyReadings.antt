@@ -31,6 +31,14 @@ abbrev pub lines_of : List (List ℕ × ℕ) → List (List ℕ) → List Line
 lines_of labels [] = []
 lines_of labels (text ∷ texts) = lines_with labels (core_of text) (lines_of labels texts)
 
+abbrev places_with : List ℕ → ℕ → List ℕ → List ℕ
+places_with core place rest = cond (is_label_core core) rest (cond (is_code core) (place ∷ rest) rest)
+
+-- the places where they stand, the first text being at a place
+abbrev pub places_of : List (List ℕ) → ℕ → List ℕ
+places_of [] place = []
+places_of (text ∷ texts) place = places_with (core_of text) place (places_of texts (place + 1))
+
 -- a core that spells nothing
 record IsSkipped (core : List ℕ) : Type 0 where
   tight : IsTight core
@@ -83,32 +91,36 @@ label_named name is =
     }
 
 -- what is read of texts
-pub record BodyRead (labels : List (List ℕ × ℕ)) (texts : List (List ℕ)) (at : ℕ) (lines : List Line) (defined : List (List ℕ × ℕ)) : Type 0 where
+pub record BodyRead (labels : List (List ℕ × ℕ)) (texts : List (List ℕ)) (place at : ℕ) (lines : List Line) (places : List ℕ) (defined : List (List ℕ × ℕ)) : Type 0 where
   pub labels_are : labels_of texts at ≡ defined
   pub lines_are : lines_of labels texts ≡ lines
+  pub places_are : places_of texts place ≡ places
 
-skips : (labels : List (List ℕ × ℕ)) (text : List ℕ) (texts : List (List ℕ)) (at : ℕ) (lines : List Line) (defined : List (List ℕ × ℕ)) (core : List ℕ) → Says text core → IsSkipped core → BodyRead labels texts at lines defined → BodyRead labels (text ∷ texts) at lines defined
-skips labels text texts at lines defined core says skipped rest =
+skips : (labels : List (List ℕ × ℕ)) (text : List ℕ) (texts : List (List ℕ)) (place at : ℕ) (lines : List Line) (places : List ℕ) (defined : List (List ℕ × ℕ)) (core : List ℕ) → Says text core → IsSkipped core → BodyRead labels texts (place + 1) at lines places defined → BodyRead labels (text ∷ texts) place at lines places defined
+skips labels text texts place at lines places defined core says skipped rest =
     let read = says_core text core skipped.tight says in
     record {
       labels_are = ap (λ c. labels_with c at (labels_of texts at) (labels_of texts (at + 1))) read ∙ rw (skipped.no_label, skipped.no_code) rest.labels_are;
       lines_are = ap (λ c. lines_with labels c (lines_of labels texts)) read ∙ rw (skipped.no_label, skipped.no_code) rest.lines_are;
+      places_are = ap (λ c. places_with c place (places_of texts (place + 1))) read ∙ rw (skipped.no_label, skipped.no_code) rest.places_are;
     }
 
-names : (labels : List (List ℕ × ℕ)) (text : List ℕ) (texts : List (List ℕ)) (at : ℕ) (lines : List Line) (defined : List (List ℕ × ℕ)) (name core : List ℕ) → Says text core → IsNamed name core → BodyRead labels texts at lines defined → BodyRead labels (text ∷ texts) at lines ((name, at) ∷ defined)
-names labels text texts at lines defined name core says named rest =
+names : (labels : List (List ℕ × ℕ)) (text : List ℕ) (texts : List (List ℕ)) (place at : ℕ) (lines : List Line) (places : List ℕ) (defined : List (List ℕ × ℕ)) (name core : List ℕ) → Says text core → IsNamed name core → BodyRead labels texts (place + 1) at lines places defined → BodyRead labels (text ∷ texts) place at lines places ((name, at) ∷ defined)
+names labels text texts place at lines places defined name core says named rest =
     let read = says_core text core named.tight says in
     record {
       labels_are = ap (λ c. labels_with c at (labels_of texts at) (labels_of texts (at + 1))) read ∙ rw (named.is_label, named.name_is, rest.labels_are) refl;
       lines_are = ap (λ c. lines_with labels c (lines_of labels texts)) read ∙ rw named.is_label rest.lines_are;
+      places_are = ap (λ c. places_with c place (places_of texts (place + 1))) read ∙ rw named.is_label rest.places_are;
     }
 
-codes_line : (labels : List (List ℕ × ℕ)) (text : List ℕ) (texts : List (List ℕ)) (at : ℕ) (line : Line) (lines : List Line) (defined : List (List ℕ × ℕ)) (core : List ℕ) → Says text core → Reads labels core line → BodyRead labels texts (at + 1) lines defined → BodyRead labels (text ∷ texts) at (line ∷ lines) defined
-codes_line labels text texts at line program defined core says reads rest =
+codes_line : (labels : List (List ℕ × ℕ)) (text : List ℕ) (texts : List (List ℕ)) (place at : ℕ) (line : Line) (lines : List Line) (places : List ℕ) (defined : List (List ℕ × ℕ)) (core : List ℕ) → Says text core → Reads labels core line → BodyRead labels texts (place + 1) (at + 1) lines places defined → BodyRead labels (text ∷ texts) place at (line ∷ lines) (place ∷ places) defined
+codes_line labels text texts place at line program places defined core says reads rest =
     let read = says_core text core reads.tight says in
     record {
       labels_are = ap (λ c. labels_with c at (labels_of texts at) (labels_of texts (at + 1))) read ∙ rw (reads.not_label, reads.code) rest.labels_are;
       lines_are = ap (λ c. lines_with labels c (lines_of labels texts)) read ∙ rw (reads.not_label, reads.code) (ap (λ l. l ∷ lines_of labels texts) reads.line_is ∙ ap (λ ls. line ∷ ls) rest.lines_are);
+      places_are = ap (λ c. places_with c place (places_of texts (place + 1))) read ∙ rw (reads.not_label, reads.code) (ap (λ others. place ∷ others) rest.places_are);
     }
 
 -- a line that means nothing says a core that is passed over
@@ -117,18 +129,18 @@ nothing_core (empty says) = ([], says, nothing_skipped)
 nothing_core (section says) = (codes ".text", says, section_skipped)
 nothing_core (global core says is) = (core, says, global_skipped core is)
 
--- texts spell one list of lines, and define one list of labels
-pub body_read : (labels : List (List ℕ × ℕ)) (count : ℕ) {texts : List (List ℕ)} {at : ℕ} {lines : List Line} {defined : List (List ℕ × ℕ)} → AreTextLabels labels → SpellLines labels texts at lines defined → FitLines count at lines → BodyRead labels texts at lines defined
-body_read labels count are end fit = record { labels_are = refl; lines_are = refl }
-body_read labels count are (skip {text} {texts} {at} {program} {defined} nothing rest) fit =
+-- texts spell one list of lines at one list of places, and define one list of labels
+pub body_read : (labels : List (List ℕ × ℕ)) (count : ℕ) {texts : List (List ℕ)} {place at : ℕ} {lines : List Line} {places : List ℕ} {defined : List (List ℕ × ℕ)} → AreTextLabels labels → SpellLines labels texts place at lines places defined → FitLines count at lines → BodyRead labels texts place at lines places defined
+body_read labels count are end fit = record { labels_are = refl; lines_are = refl; places_are = refl }
+body_read labels count are (skip {text} {texts} {place} {at} {program} {places} {defined} nothing rest) fit =
     let core = nothing_core nothing in
-    skips labels text texts at program defined core.0 core.1 core.2 (body_read labels count are rest fit)
-body_read labels count are (label {text} {texts} {at} {program} {defined} name says is rest) fit = names labels text texts at program defined name (name ++ codes ":") says (label_named name is) (body_read labels count are rest fit)
-body_read labels count are (instruction {text} {texts} {at} {line} {program} {defined} core says spelled rest) fit =
-    codes_line labels text texts at line program defined core says (line_read labels count at core line are fit.0 spelled) (body_read labels count are rest fit.1)
+    skips labels text texts place at program places defined core.0 core.1 core.2 (body_read labels count are rest fit)
+body_read labels count are (label {text} {texts} {place} {at} {program} {places} {defined} name says is rest) fit = names labels text texts place at program places defined name (name ++ codes ":") says (label_named name is) (body_read labels count are rest fit)
+body_read labels count are (instruction {text} {texts} {place} {at} {line} {program} {places} {defined} core says spelled rest) fit =
+    codes_line labels text texts place at line program places defined core says (line_read labels count at core line are fit.0 spelled) (body_read labels count are rest fit.1)
 
 -- labels have names of labels
-pub labels_named : (labels : List (List ℕ × ℕ)) {texts : List (List ℕ)} {at : ℕ} {lines : List Line} {defined : List (List ℕ × ℕ)} → SpellLines labels texts at lines defined → AllByRecursion (λ one. IsLabel one.0) defined
+pub labels_named : (labels : List (List ℕ × ℕ)) {texts : List (List ℕ)} {place at : ℕ} {lines : List Line} {places : List ℕ} {defined : List (List ℕ × ℕ)} → SpellLines labels texts place at lines places defined → AllByRecursion (λ one. IsLabel one.0) defined
 labels_named labels end = tt
 labels_named labels (skip nothing rest) = labels_named labels rest
 labels_named labels (label name says is rest) = (is, labels_named labels rest)

@@ -1,19 +1,21 @@
-use Rattle.std.proofs.Common.{[], ◌∷◌, ◌++◌, refl, arith, rules}
+use Rattle.std.proofs.Common.{◌≡◌, ℕ, [], ◌∷◌, ◌++◌, get_or, refl, ap, arith, rules}
 use Rattle.std.specs.Prelude.{codes}
 use Rattle.std.specs.Fmt.{digits}
 use Rattle.rv_line.specs.Emitted.{register_text}
 use Rattle.rv_line.specs.SpellingExamples.{small_text, small_parts, loose_text}
 use Rattle.rv_line.specs.Fits.{AreAreas, FitLines}
 use Rattle.rv_line.specs.Instructions.{Takes}
+use Rattle.rv_line.specs.Parts.{Parts}
 use Rattle.rv_line.specs.Spells.{Spells}
 use Rattle.rv_line.specs.Spells.SaysNothing.{empty, global}
 use Rattle.rv_line.specs.Spells.SpellLines.{end, skip, label, instruction}
 use Rattle.rv_line.proofs.BodyLemmas.{Says-itself}
+use Rattle.rv_line.proofs.UniqueLemmas.{one_program}
 
-areas_are : AreAreas small_parts.areas
-areas_are = record { in_order = tt; differ = λ i j d below within. absurd (omega arith); packed = (refl, tt) }
+areas_are : AreAreas (small_parts []).areas
+areas_are = record { each = (record { named = refl; shaped = refl }, tt); in_order = tt; differ = λ i j d below within. absurd (omega arith); packed = (refl, tt) }
 
-lines_are : FitLines 2 0 small_parts.lines
+lines_are : FitLines 2 0 (small_parts []).lines
 lines_are = (
   record { to = omega arith; imm = omega arith },
   (record { operand = omega arith; base = omega arith; imm = record { low = search rules; high = search rules } }, tt),
@@ -41,7 +43,7 @@ sd_spelled = record {
   separated = ([], 32 ∷ [], codes "0(x10)", refl, refl, refl, refl);
 }
 
-pub small_spelled : Spells small_text small_parts
+pub small_spelled : Spells small_text (small_parts (5 ∷ 6 ∷ []))
 small_spelled = record {
   steps = codes "2";
   spill = codes "0";
@@ -59,10 +61,9 @@ small_spelled = record {
       offset = codes "0";
       extents = [];
       spelled = refl;
-      kind = (refl, refl);
+      kind = refl;
       begins = record { digits = search rules; value = refl };
       shape = tt;
-      small = refl;
     },
     tt,
   );
@@ -102,7 +103,7 @@ loose_sd = record {
   separated = ([], 32 ∷ [], codes "-0(x10)", refl, refl, refl, refl);
 }
 
-pub loose_spelled : Spells loose_text small_parts
+pub loose_spelled : Spells loose_text (small_parts (9 ∷ 10 ∷ []))
 loose_spelled = record {
   steps = codes "02";
   spill = codes "0";
@@ -120,10 +121,9 @@ loose_spelled = record {
       offset = codes "00";
       extents = [];
       spelled = refl;
-      kind = (refl, refl);
+      kind = refl;
       begins = record { digits = search rules; value = refl };
       shape = tt;
-      small = refl;
     },
     tt,
   );
@@ -150,3 +150,10 @@ loose_spelled = record {
   labels_differ = λ i j d below within. absurd (omega arith);
   lines_fit = lines_are;
 }
+
+-- the second line stands at another place
+pub misplaced_refused : Spells small_text (small_parts (5 ∷ 7 ∷ [])) → ⊥
+misplaced_refused spells =
+    let same = one_program small_text _ _ small_spelled spells in
+    let place : ◌≡◌ {A = ℕ} 6 7 = ap (λ (parts : Parts). get_or parts.places 1 0) same in
+    omega arith

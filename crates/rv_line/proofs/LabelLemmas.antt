@@ -51,19 +51,19 @@ labelled_same lines i d labelled found number below looked is before =
     rw (list_any_more (has_target number) lines i d below, sym looked ∙ is) (before ∙ sym (or-false _))
 
 -- what is done, and what is left, one line on
-pub places_more : (labelled : ℕ → Bool) (lines : List Line) (at row place : ℕ) (d : Line) (places whole : List ℕ) → at < length lines → place ≡ row + (if labelled at then 1 else 0) → places ++ places_from labelled row at (drop at lines) ≡ whole → places ++ place ∷ [] ++ places_from labelled (place + 1) (at + 1) (drop (at + 1) lines) ≡ whole
-places_more labelled lines at row place d places whole below is before =
+pub places_more : (labelled : ℕ → Bool) (lines : List Line) (at next place : ℕ) (d : Line) (places whole : List ℕ) → at < length lines → place ≡ next + (if labelled at then 1 else 0) → places ++ places_from labelled next at (drop at lines) ≡ whole → places ++ place ∷ [] ++ places_from labelled (place + 1) (at + 1) (drop (at + 1) lines) ≡ whole
+places_more labelled lines at next place d places whole below is before =
     append_assoc places (place ∷ []) (places_from labelled (place + 1) (at + 1) (drop (at + 1) lines))
     ∙ rw is (rw (drop_more lines at d below) at before)
 
-pub length-places_from : (labelled : ℕ → Bool) (row at : ℕ) (lines : List Line) → length (places_from labelled row at lines) ≡ length lines
-length-places_from labelled row at [] = refl
-length-places_from labelled row at (line ∷ lines) =
-    ap suc (length-places_from labelled (row + (if labelled at then 1 else 0) + 1) (at + 1) lines)
+pub length-places_from : (labelled : ℕ → Bool) (next at : ℕ) (lines : List Line) → length (places_from labelled next at lines) ≡ length lines
+length-places_from labelled next at [] = refl
+length-places_from labelled next at (line ∷ lines) =
+    ap suc (length-places_from labelled (next + (if labelled at then 1 else 0) + 1) (at + 1) lines)
 
--- a label takes a row
-pub row_labelled : (labelled : Bool) (row : ℕ) → labelled ≡ true → row + 1 ≡ row + (if labelled then 1 else 0)
-row_labelled labelled row is = rw is refl
+-- a label takes a place
+pub place_labelled : (labelled : Bool) (place : ℕ) → labelled ≡ true → place + 1 ≡ place + (if labelled then 1 else 0)
+place_labelled labelled place is = rw is refl
 
-pub row_unlabelled : (labelled : Bool) (row : ℕ) → labelled ≡ false → row ≡ row + (if labelled then 1 else 0)
-row_unlabelled labelled row is = rw is (sym (add-zero row))
+pub place_unlabelled : (labelled : Bool) (place : ℕ) → labelled ≡ false → place ≡ place + (if labelled then 1 else 0)
+place_unlabelled labelled place is = rw is (sym (add-zero place))

@@ -1,3 +1,4 @@
+pub mod AreaLemmas
 pub mod BodyLemmas
 pub mod BodyReadings
 pub mod CodeReadings

@@ -17,7 +17,7 @@ use Rattle.shapes_core.specs.declared.area.AreaKind.{AreaKind}
 use Rattle.shapes_core.specs.declared.area.AreaKind.TheVariants.{In, Out, Scan}
 use Rattle.rv_line.specs.Emitted.{register_text}
 use Rattle.rv_line.specs.SpellingExamples.{leading_zero_text, large_imm_text, no_label_text, wrong_offset_text, repeated_label_text}
-use Rattle.rv_line.specs.Fits.{IsImm, FitsLine, FitLines, StartFrom}
+use Rattle.rv_line.specs.Fits.{Accepts, AreAreas, FitsLine, FitLines, IsArea, IsNamed}
 use Rattle.rv_line.specs.Instructions.{is_blank, AreBlanks, Takes, TakesImm, SpellsLine}
 use Rattle.rv_line.specs.Numbers.{IsNumber, without_minus}
 use Rattle.rv_line.specs.Parts.{Parts}
@@ -33,7 +33,7 @@ use Rattle.rv_line.proofs.LinesLemmas.{both}
 use Rattle.rv_line.proofs.RefusalLemmas.{IsInstruction, first_line, no_texts, IsLabelLine, FirstLabel, first_label, no_rows}
 
 -- the texts behind the header, where the first is no row, are the body
-body_is : (text : List ℕ) (parts : Parts) (one two three first : List ℕ) (rest : List (List ℕ)) (spells : Spells text parts) → lines text ≡ one ∷ two ∷ three ∷ first ∷ rest → is_row first ≡ false → SpellLines spells.labels (first ∷ rest) 0 parts.lines spells.labels
+body_is : (text : List ℕ) (parts : Parts) (one two three first : List ℕ) (rest : List (List ℕ)) (spells : Spells text parts) → lines text ≡ one ∷ two ∷ three ∷ first ∷ rest → is_row first ≡ false → SpellLines spells.labels (first ∷ rest) (length spells.rows + 4) 0 parts.lines parts.places spells.labels
 body_is text parts one two three first rest spells split other =
     let behind : first ∷ rest ≡ spells.rows ++ spells.body = ap (drop 3) (sym split ∙ spells.split) in
     let none : spells.rows ≡ [] = no_rows spells.rows spells.body parts.header.spill parts.areas first rest behind other spells.rows_spell in
@@ -61,8 +61,8 @@ no_label_refused parts spells =
 tight_label : IsLabelLine (codes "a")
 tight_label = record { tight = record { bare = refl; first = refl; last = refl }; begins = λ e. omega arith; no_mnemonic = refl }
 
-two_labels : (labels : List (List ℕ × ℕ)) (program : List Line) (first : FirstLabel labels (codes "a") (codes "a:" ∷ []) 0 program labels) → (more : List (List ℕ × ℕ)) × (labels ≡ (codes "a", 0) ∷ (codes "a", 0) ∷ more)
-two_labels labels program first =
+two_labels : (labels : List (List ℕ × ℕ)) (place : ℕ) (program : List Line) (places : List ℕ) (first : FirstLabel labels (codes "a") (codes "a:" ∷ []) place 0 program places labels) → (more : List (List ℕ × ℕ)) × (labels ≡ (codes "a", 0) ∷ (codes "a", 0) ∷ more)
+two_labels labels place program places first =
     let second = first_label labels (codes "a") tight_label refl first.others in
     (second.more, first.is ∙ ap (λ ls. (codes "a", 0) ∷ ls) second.is)
 
@@ -76,7 +76,7 @@ pub repeated_label_refused : (parts : Parts) → Spells repeated_label_text part
 repeated_label_refused parts spells =
     let body = body_is repeated_label_text parts _ _ _ (codes "a:") (codes "a:" ∷ []) spells refl refl in
     let first = first_label spells.labels (codes "a") tight_label refl body in
-    let labels = two_labels spells.labels parts.lines first in
+    let labels = two_labels spells.labels (length spells.rows + 4) parts.lines parts.places first in
     not_twice spells.labels labels.0 labels.1 spells.labels_differ
 
 -- what follows the blanks at the front
@@ -212,7 +212,7 @@ last_operand core mnemonic one two digits numeral takes =
     ∙ skip_gap second.1 solid.first solid.others second.5 solid.solid
     ∙ sym solid.is
 
-at_most_2047 : (code : Imm) (z : ℤ) → IsImm code z → z ≤ℤ pos 2047
+at_most_2047 : (code : Imm) (z : ℤ) → Accepts code z → z ≤ℤ pos 2047
 at_most_2047 Slli z known = let high = known.high in omega (arith, ints)
 at_most_2047 Srli z known = let high = known.high in omega (arith, ints)
 at_most_2047 Srai z known = let high = known.high in omega (arith, ints)
@@ -221,7 +221,7 @@ at_most_2047 Srliw z known = let high = known.high in omega (arith, ints)
 at_most_2047 Sraiw z known = let high = known.high in omega (arith, ints)
 at_most_2047 other z known = known.high
 
-no_imm : (code : Imm) (to from : ℕ) (imm : ℤ) → IsImm code imm → TakesImm (codes "addi x5, x0, 2048") (imm_mnemonic code) (register_text to ∷ register_text from ∷ []) imm → ⊥
+no_imm : (code : Imm) (to from : ℕ) (imm : ℤ) → Accepts code imm → TakesImm (codes "addi x5, x0, 2048") (imm_mnemonic code) (register_text to ∷ register_text from ∷ []) imm → ⊥
 no_imm code to from imm fits spelled =
     let digits : codes "2048" ≡ spelled.digits = last_operand (codes "addi x5, x0, 2048") (imm_mnemonic code) (register_text to) (register_text from) spelled.digits spelled.number.digits spelled.takes in
     let value : pos 2048 ≡ imm = ap (signed_digits_value 10) digits ∙ spelled.number.value in
@@ -264,33 +264,33 @@ offset_not_zero (byte ∷ []) extents number e =
     omega arith
 offset_not_zero (byte ∷ other ∷ bytes) extents number e = omega (arith, ap length e)
 
-no_row : (area : Area) (word : ℕ) → word ≡ 0 → SpellsRow (codes "# out C 1") word area → ⊥
-no_row area word is spells = by_kind area.kind spells.kind
+no_row : (area : Area) (word : ℕ) → word ≡ 0 → IsArea area → SpellsRow (codes "# out C 1") word area → ⊥
+no_row area word is known spells = by_kind area.kind known.named spells.kind
   where
-    by_kind : (kind : AreaKind) → SpellsKind spells.front kind → ⊥
-    by_kind (In name) known =
-        let third : ◌≡◌ {A = ℕ} 111 105 = ap (λ t. get_or t 2 0) (spells.spelled ∙ ap (λ t. t ++ codes " " ++ spells.offset ++ spaced spells.extents) known.0) in omega arith
-    by_kind (Out name) known =
-        let whole : codes "# out C 1" ≡ codes "# out " ++ name ++ codes " " ++ spells.offset ++ spaced spells.extents = spells.spelled ∙ ap (λ t. t ++ codes " " ++ spells.offset ++ spaced spells.extents) known.0 in
+    by_kind : (kind : AreaKind) → IsNamed kind → SpellsKind spells.front kind → ⊥
+    by_kind (In name) named front =
+        let third : ◌≡◌ {A = ℕ} 111 105 = ap (λ t. get_or t 2 0) (spells.spelled ∙ ap (λ t. t ++ codes " " ++ spells.offset ++ spaced spells.extents) front) in omega arith
+    by_kind (Out name) named front =
+        let whole : codes "# out C 1" ≡ codes "# out " ++ name ++ codes " " ++ spells.offset ++ spaced spells.extents = spells.spelled ∙ ap (λ t. t ++ codes " " ++ spells.offset ++ spaced spells.extents) front in
         let behind : codes "C 1" ≡ name ++ codes " " ++ spells.offset ++ spaced spells.extents = ap (drop 6) whole in
         let regrouped : name ++ codes " " ++ spells.offset ++ spaced spells.extents ≡ name ++ 32 ∷ (spells.offset ++ spaced spells.extents) = simp append_assoc refl in
-        offset_not_zero spells.offset spells.extents (rw is at spells.begins) (name_word name (spells.offset ++ spaced spells.extents) known.1 (behind ∙ regrouped))
-    by_kind (Scan number) known =
+        offset_not_zero spells.offset spells.extents (rw is at spells.begins) (name_word name (spells.offset ++ spaced spells.extents) named (behind ∙ regrouped))
+    by_kind (Scan number) named known =
         let third : ◌≡◌ {A = ℕ} 111 115 = ap (λ t. get_or t 2 0) (spells.spelled ∙ ap (λ t. t ++ codes " " ++ spells.offset ++ spaced spells.extents) known.1) in omega arith
 
-no_such_rows : (rows body : List (List ℕ)) (spill : ℕ) (areas : List Area) → codes "# out C 1" ∷ [] ≡ rows ++ body → spill ≡ 0 → SpellRows rows spill areas → StartFrom 0 areas → EndsRows body → ⊥
-no_such_rows [] body spill areas split none spells packed ends =
+no_such_rows : (rows body : List (List ℕ)) (spill : ℕ) (areas : List Area) → codes "# out C 1" ∷ [] ≡ rows ++ body → spill ≡ 0 → SpellRows rows spill areas → AreAreas areas → EndsRows body → ⊥
+no_such_rows [] body spill areas split none spells are ends =
     let P : List (List ℕ) → Type 0 = EndsRows in
     let wrong : true ≡ false = subst P (sym split) ends in
     absurd (cc)
-no_such_rows (row ∷ rows) body spill [] split none spells packed ends = absurd spells
-no_such_rows (row ∷ rows) body spill (area ∷ areas) split none spells packed ends =
+no_such_rows (row ∷ rows) body spill [] split none spells are ends = absurd spells
+no_such_rows (row ∷ rows) body spill (area ∷ areas) split none spells are ends =
     let same : codes "# out C 1" ≡ row = ap (λ ts. get_or ts 0 []) split in
-    no_row area (spill + area.start) (omega (arith, packed.0)) (rw (sym same) at spells.0)
+    no_row area (spill + area.start) (omega (arith, are.packed.0)) are.each.0 (rw (sym same) at spells.0)
 
 pub wrong_offset_refused : (parts : Parts) → Spells wrong_offset_text parts → ⊥
 wrong_offset_refused parts spells =
     let rest : codes "# out C 1" ∷ [] ≡ spells.rows ++ spells.body = ap (drop 3) spells.split in
     let spill_text : codes "0" ≡ spells.spill = ap (λ ts. drop 8 (get_or ts 2 [])) spells.split in
     let spill : 0 ≡ parts.header.spill = ap (digits_value 10) spill_text ∙ spells.spill_number.value in
-    no_such_rows spells.rows spells.body parts.header.spill parts.areas rest (sym spill) spells.rows_spell spells.areas.packed spells.rows_end
+    no_such_rows spells.rows spells.body parts.header.spill parts.areas rest (sym spill) spells.rows_spell spells.areas spells.rows_end

@@ -7,7 +7,7 @@ use Rattle.std.proofs.lemmas.Bool.{ne_eqb, le-leb}
 use Rattle.std.proofs.lemmas.Fmt.{decimal_is_IsNumeral}
 use Rattle.std.proofs.lemmas.Str.Parse.{digit_at, digit_from_value}
 use Rattle.std.proofs.lemmas.Int.{ints}
-use Rattle.rv_line.specs.Fits.{IsSmall, IsShift, IsImm}
+use Rattle.rv_line.specs.Fits.{IsImmediate, IsShift, Accepts}
 use Rattle.rv_line.specs.Numbers.{IsNumber, IsSignedNumber}
 use Rattle.rv_line.specs.declared.line.Imm.{Imm}
 use Rattle.rv_line.specs.declared.line.Imm.TheVariants.{Slli, Srli, Srai, Slliw, Srliw, Sraiw}
@@ -55,7 +55,7 @@ IsPlain-signed_decimal (pos n) small = IsPlain-decimal n (omega arith)
 IsPlain-signed_decimal (negsuc n) small = record { plain = (IsPlain-decimal (suc n) (omega arith)).plain }
 
 -- immediates are small numbers
-pub mag_small : (z : ℤ) → IsSmall z → mag z < 2 ^ 63
+pub mag_small : (z : ℤ) → IsImmediate z → mag z < 2 ^ 63
 mag_small (pos n) small = let high = small.high in omega (arith, ints)
 mag_small (negsuc n) small = let low = small.low in omega (arith, ints)
 
@@ -63,7 +63,7 @@ mag_shift : (most : ℕ) (z : ℤ) → most ≤ 63 → IsShift (pos most) z → 
 mag_shift most (pos n) bound shift = let high = shift.high in omega (arith, ints)
 mag_shift most (negsuc n) bound shift = let low = shift.low in omega (arith, ints)
 
-pub mag_imm : (code : Imm) (z : ℤ) → IsImm code z → mag z < 2 ^ 63
+pub mag_imm : (code : Imm) (z : ℤ) → Accepts code z → mag z < 2 ^ 63
 mag_imm Slli z known = mag_shift 63 z (omega arith) known
 mag_imm Srli z known = mag_shift 63 z (omega arith) known
 mag_imm Srai z known = mag_shift 63 z (omega arith) known

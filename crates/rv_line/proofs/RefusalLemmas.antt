@@ -76,14 +76,15 @@ pub record IsInstruction (text : List ℕ) : Type 0 where
   pub ends : last_of 0 text ≢ 58
 
 -- the first of the lines is spelled by this text, and the others by the other texts
-pub record First (labels : List (List ℕ × ℕ)) (text : List ℕ) (texts : List (List ℕ)) (at : ℕ) (program : List Line) (defined : List (List ℕ × ℕ)) : Type 0 where
+pub record First (labels : List (List ℕ × ℕ)) (text : List ℕ) (texts : List (List ℕ)) (place at : ℕ) (program : List Line) (defined : List (List ℕ × ℕ)) : Type 0 where
   pub line : Line
   pub lines : List Line
+  pub places : List ℕ
   pub is : program ≡ line ∷ lines
   pub spelled : SpellsLine labels text line
-  pub others : SpellLines labels texts (at + 1) lines defined
+  pub others : SpellLines labels texts (place + 1) (at + 1) lines places defined
 
-pub first_line : (labels : List (List ℕ × ℕ)) {text : List ℕ} {texts : List (List ℕ)} {at : ℕ} {program : List Line} {defined : List (List ℕ × ℕ)} → IsInstruction text → SpellLines labels (text ∷ texts) at program defined → First labels text texts at program defined
+pub first_line : (labels : List (List ℕ × ℕ)) {text : List ℕ} {texts : List (List ℕ)} {place at : ℕ} {program : List Line} {places : List ℕ} {defined : List (List ℕ × ℕ)} → IsInstruction text → SpellLines labels (text ∷ texts) place at program places defined → First labels text texts place at program defined
 first_line labels {text} is (skip (empty says) rest) =
     let alone = tight_core text [] is.tight says in
     let some = is.some in
@@ -92,11 +93,11 @@ first_line labels {text} is (skip (section says) rest) = absurd (is.begins (ap (
 first_line labels {text} is (skip (global core says g) rest) = absurd (is.begins (ap (λ t. get_or t 0 0) (tight_core text core is.tight says ∙ g.spelled)))
 first_line labels {text} is (label name says named rest) =
     absurd (is.ends (ap (last_of 0) (tight_core text (name ++ codes ":") is.tight says) ∙ last_of-append 0 name 58 []))
-first_line labels {text} is (instruction {line} {program} core says spelled rest) =
-    record { line = line; lines = program; is = refl; spelled = rw (sym (tight_core text core is.tight says)) at spelled; others = rest }
+first_line labels {text} is (instruction {line} {program} {places} core says spelled rest) =
+    record { line = line; lines = program; places = places; is = refl; spelled = rw (sym (tight_core text core is.tight says)) at spelled; others = rest }
 
 -- no texts define no labels
-pub no_texts : (labels : List (List ℕ × ℕ)) {at : ℕ} {program : List Line} {defined : List (List ℕ × ℕ)} → SpellLines labels [] at program defined → defined ≡ []
+pub no_texts : (labels : List (List ℕ × ℕ)) {place at : ℕ} {program : List Line} {places : List ℕ} {defined : List (List ℕ × ℕ)} → SpellLines labels [] place at program places defined → defined ≡ []
 no_texts labels end = refl
 
 -- a tight line that is a label
@@ -106,12 +107,12 @@ pub record IsLabelLine (name : List ℕ) : Type 0 where
   pub no_mnemonic : form_of (first_word (name ++ codes ":")) ≡ 12
 
 -- the first of the texts defines this label, and the others are spelled alone
-pub record FirstLabel (labels : List (List ℕ × ℕ)) (name : List ℕ) (texts : List (List ℕ)) (at : ℕ) (program : List Line) (defined : List (List ℕ × ℕ)) : Type 0 where
+pub record FirstLabel (labels : List (List ℕ × ℕ)) (name : List ℕ) (texts : List (List ℕ)) (place at : ℕ) (program : List Line) (places : List ℕ) (defined : List (List ℕ × ℕ)) : Type 0 where
   pub more : List (List ℕ × ℕ)
   pub is : defined ≡ (name, at) ∷ more
-  pub others : SpellLines labels texts at program more
+  pub others : SpellLines labels texts (place + 1) at program places more
 
-pub first_label : (labels : List (List ℕ × ℕ)) (name : List ℕ) {texts : List (List ℕ)} {text : List ℕ} {at : ℕ} {program : List Line} {defined : List (List ℕ × ℕ)} → IsLabelLine name → text ≡ name ++ codes ":" → SpellLines labels (text ∷ texts) at program defined → FirstLabel labels name texts at program defined
+pub first_label : (labels : List (List ℕ × ℕ)) (name : List ℕ) {texts : List (List ℕ)} {text : List ℕ} {place at : ℕ} {program : List Line} {places : List ℕ} {defined : List (List ℕ × ℕ)} → IsLabelLine name → text ≡ name ++ codes ":" → SpellLines labels (text ∷ texts) place at program places defined → FirstLabel labels name texts place at program places defined
 first_label labels name {text} is same (skip (empty says) rest) =
     let alone = tight_core (name ++ codes ":") [] is.tight (rw same at says) in
     absurd (omega (arith, length-append name (58 ∷ []), ap length alone))
@@ -128,8 +129,8 @@ pub row_begins : (row : List ℕ) (word : ℕ) (area : Area) → SpellsRow row w
 row_begins row word area spells = by_kind area.kind spells.kind
   where
     by_kind : (kind : AreaKind) → SpellsKind spells.front kind → is_row row ≡ true
-    by_kind (In name) known = rw (spells.spelled, known.0) refl
-    by_kind (Out name) known = rw (spells.spelled, known.0) refl
+    by_kind (In name) known = rw (spells.spelled, known) refl
+    by_kind (Out name) known = rw (spells.spelled, known) refl
     by_kind (Scan number) known = rw (spells.spelled, known.1) refl
 
 -- where the first line is no row there are no rows

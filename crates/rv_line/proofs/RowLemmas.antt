@@ -12,7 +12,8 @@ use Rattle.shapes_core.specs.declared.area.AreaKind.{AreaKind}
 use Rattle.shapes_core.specs.declared.area.AreaKind.TheVariants.{In, Out, Scan}
 use Rattle.rv_line.specs.Emitted.{kind_text, extents_text, area_text, areas_text}
 use Rattle.rv_line.specs.Numbers.{AreNumbers}
-use Rattle.rv_line.specs.Rows.{SpellsKind, SpellsRow, SpellRows, spaced, IsKind, HasRow}
+use Rattle.rv_line.specs.Rows.{SpellsKind, SpellsRow, SpellRows, spaced}
+use Rattle.rv_line.specs.Fits.{IsNamed, IsArea}
 use Rattle.rv_line.proofs.LinesLemmas.{IsPlain, IsPlain-append, lines_more, both}
 use Rattle.rv_line.proofs.NumberLemmas.{IsNumber-decimal, IsPlain-decimal}
 
@@ -49,10 +50,22 @@ IsPlain-extents (extent ∷ extents) small =
     (IsPlain-append {xs = codes " "} {ys = decimal extent} (record { plain = refl }) (IsPlain-decimal extent small.0))
     (IsPlain-extents extents small.1)
 
-kind_spelled : (kind : AreaKind) → IsKind kind → SpellsKind (kind_text kind) kind
-kind_spelled (In name) is = (refl, is)
-kind_spelled (Out name) is = (refl, is)
-kind_spelled (Scan number) is = (decimal number, refl, IsNumber-decimal number (omega arith))
+-- the number of a scan is below this one
+abbrev pub IsBelow : ℕ → AreaKind → Type 0
+IsBelow most (In name) = Unit {0}
+IsBelow most (Out name) = Unit {0}
+IsBelow most (Scan number) = number < most
+
+-- what is known of an area whose row is written
+pub record HasRow (spill : ℕ) (area : Area) : Type 0 where
+  pub is : IsArea area
+  pub scan : IsBelow (2 ^ 32) area.kind
+  pub offset : spill + area.start < 2 ^ 64
+
+kind_spelled : (kind : AreaKind) → IsBelow (2 ^ 32) kind → SpellsKind (kind_text kind) kind
+kind_spelled (In name) below = refl
+kind_spelled (Out name) below = refl
+kind_spelled (Scan number) below = (decimal number, refl, IsNumber-decimal number (omega arith))
 
 letter_large : (byte : ℕ) → is_letter byte ≡ true → 32 ≤ byte
 letter_large byte is = grind (arith, nat_tests)
@@ -73,10 +86,10 @@ IsPlain-name (first ∷ others) is =
     let front = both (is_letter first) (list_all is_name_byte others) parts.0 in
     record { plain = rw (le-leb 32 first (letter_large first front.0)) (IsPlain-name_bytes others front.1).plain }
 
-IsPlain-kind : (kind : AreaKind) → IsKind kind → IsPlain (kind_text kind)
-IsPlain-kind (In name) is = IsPlain-append {xs = codes "# in "} {ys = name} (record { plain = refl }) (IsPlain-name name is)
-IsPlain-kind (Out name) is = IsPlain-append {xs = codes "# out "} {ys = name} (record { plain = refl }) (IsPlain-name name is)
-IsPlain-kind (Scan number) is = IsPlain-append {xs = codes "# scan "} {ys = decimal number} (record { plain = refl }) (IsPlain-decimal number (omega arith))
+IsPlain-kind : (kind : AreaKind) → IsNamed kind → IsBelow (2 ^ 32) kind → IsPlain (kind_text kind)
+IsPlain-kind (In name) is below = IsPlain-append {xs = codes "# in "} {ys = name} (record { plain = refl }) (IsPlain-name name is)
+IsPlain-kind (Out name) is below = IsPlain-append {xs = codes "# out "} {ys = name} (record { plain = refl }) (IsPlain-name name is)
+IsPlain-kind (Scan number) is below = IsPlain-append {xs = codes "# scan "} {ys = decimal number} (record { plain = refl }) (IsPlain-decimal number (omega arith))
 
 row_spelled : (spill : ℕ) (area : Area) → HasRow spill area → SpellsRow (row (spill + area.start) area) (spill + area.start) area
 row_spelled spill area has = record {
@@ -84,19 +97,18 @@ row_spelled spill area has = record {
   offset = decimal (spill + area.start);
   extents = map decimal area.shape;
   spelled = ap (λ text. kind_text area.kind ++ codes " " ++ decimal (spill + area.start) ++ text) (spaced_extents area.shape);
-  kind = kind_spelled area.kind has.kind;
+  kind = kind_spelled area.kind has.scan;
   begins = IsNumber-decimal (spill + area.start) has.offset;
-  shape = extents_numbers area.shape (shape_small area.shape has.shape);
-  small = has.shape;
+  shape = extents_numbers area.shape (shape_small area.shape has.is.shaped);
 }
 
 IsPlain-row : (spill : ℕ) (area : Area) → HasRow spill area → IsPlain (row (spill + area.start) area)
 IsPlain-row spill area has =
     IsPlain-append {xs = kind_text area.kind ++ codes " " ++ decimal (spill + area.start)} {ys = extents_text area.shape}
     (IsPlain-append {xs = kind_text area.kind ++ codes " "} {ys = decimal (spill + area.start)}
-    (IsPlain-append {xs = kind_text area.kind} {ys = codes " "} (IsPlain-kind area.kind has.kind) (record { plain = refl }))
+    (IsPlain-append {xs = kind_text area.kind} {ys = codes " "} (IsPlain-kind area.kind has.is.named has.scan) (record { plain = refl }))
     (IsPlain-decimal (spill + area.start) has.offset))
-    (IsPlain-extents area.shape (shape_small area.shape has.shape))
+    (IsPlain-extents area.shape (shape_small area.shape has.is.shaped))
 
 pub rows_spelled : (spill : ℕ) (areas : List Area) → AllByRecursion (HasRow spill) areas → SpellRows (rows spill areas) spill areas
 rows_spelled spill [] all = tt

@@ -1,6 +1,6 @@
 use Rattle.std.proofs.Common.{◌≡◌, ℕ, ◌+◌, ◌-◌, List, [], ◌∷◌, ◌++◌, length, get_or, drop, refl, sym, ap, ◌∙◌, arith, append_assoc}
 use Rattle.std.specs.Prelude.{true, ◌&&◌, ◌||◌, ◌==◌, nat_le, not, cond, codes, map}
-use Rattle.std.specs.List.{list_all, slice_split}
+use Rattle.std.specs.List.{list_all, slice_split, AllByRecursion}
 use Rattle.std.specs.Str.Parse.{AllDigits, digits_value}
 use Rattle.std.proofs.lemmas.Bool.{le-leb, or_left, or_right}
 use Rattle.std.proofs.lemmas.List.{append-nil}
@@ -11,6 +11,7 @@ use Rattle.shapes_core.specs.declared.area.Area.{Area}
 use Rattle.shapes_core.specs.declared.area.AreaKind.{AreaKind}
 use Rattle.shapes_core.specs.declared.area.AreaKind.TheVariants.{In, Out, Scan}
 use Rattle.rv_line.proofs.RefusalLemmas.{row_begins}
+use Rattle.rv_line.specs.Fits.{IsArea, IsNamed}
 use Rattle.rv_line.specs.Numbers.{IsNumber, AreNumbers}
 use Rattle.rv_line.specs.Rows.{is_row, SpellsKind, SpellsRow, SpellRows, spaced}
 use Rattle.rv_line.specs.Spells.{EndsRows}
@@ -76,8 +77,8 @@ start_read : (offset : List ℕ) (spill start : ℕ) → IsNumber offset (spill 
 start_read offset spill start number = rw number.value (omega arith)
 
 -- a row is of one area
-row_read : (row : List ℕ) (spill : ℕ) (area : Area) → SpellsRow row (spill + area.start) area → area_at spill (words_of row) ≡ area
-row_read row spill area spells = by_kind area.kind refl spells.kind
+row_read : (row : List ℕ) (spill : ℕ) (area : Area) → IsArea area → SpellsRow row (spill + area.start) area → area_at spill (words_of row) ≡ area
+row_read row spill area known spells = by_kind area.kind refl known.named spells.kind
   where
     digits : list_all is_digit spells.offset ≡ true
     digits = all_digits spells.offset spells.begins.digits.1
@@ -90,18 +91,18 @@ row_read row spill area spells = by_kind area.kind refl spells.kind
     behind : (front word : List ℕ) → spells.front ≡ front ++ word → row ≡ front ++ (word ++ 32 ∷ (spells.offset ++ spaced spells.extents))
     behind front word is = spells.spelled ∙ ap (λ text. text ++ codes " " ++ spells.offset ++ spaced spells.extents) is ∙ simp append_assoc refl
 
-    by_kind : (kind : AreaKind) → area.kind ≡ kind → SpellsKind spells.front kind → area_at spill (words_of row) ≡ area
-    by_kind (In name) is known =
+    by_kind : (kind : AreaKind) → area.kind ≡ kind → IsNamed kind → SpellsKind spells.front kind → area_at spill (words_of row) ≡ area
+    by_kind (In name) is named front =
         finish (codes "in") name (In name) is refl (
-        ap words_of (behind (codes "# in ") name known.0)
-        ∙ ap (λ words. codes "#" ∷ codes "in" ∷ words) (row_words name spells.offset spells.extents area.shape (all_name_bytes name known.1) digits spells.shape)
+        ap words_of (behind (codes "# in ") name front)
+        ∙ ap (λ words. codes "#" ∷ codes "in" ∷ words) (row_words name spells.offset spells.extents area.shape (all_name_bytes name named) digits spells.shape)
         )
-    by_kind (Out name) is known =
+    by_kind (Out name) is named front =
         finish (codes "out") name (Out name) is refl (
-        ap words_of (behind (codes "# out ") name known.0)
-        ∙ ap (λ words. codes "#" ∷ codes "out" ∷ words) (row_words name spells.offset spells.extents area.shape (all_name_bytes name known.1) digits spells.shape)
+        ap words_of (behind (codes "# out ") name front)
+        ∙ ap (λ words. codes "#" ∷ codes "out" ∷ words) (row_words name spells.offset spells.extents area.shape (all_name_bytes name named) digits spells.shape)
         )
-    by_kind (Scan number) is known =
+    by_kind (Scan number) is named known =
         finish (codes "scan") known.0 (Scan number) is (ap Scan known.2.value) (
         ap words_of (behind (codes "# scan ") known.0 known.1)
         ∙ ap (λ words. codes "#" ∷ codes "scan" ∷ words) (row_words known.0 spells.offset spells.extents area.shape (digit_is_name_byte known.0 (all_digits known.0 known.2.digits.1)) digits spells.shape)
@@ -111,11 +112,11 @@ row_read row spill area spells = by_kind area.kind refl spells.kind
 abbrev pub areas_at : ℕ → List (List ℕ) → List Area
 areas_at spill rows = map (λ row. area_at spill (words_of row)) rows
 
-pub rows_read : (rows : List (List ℕ)) (spill : ℕ) (areas : List Area) → SpellRows rows spill areas → areas_at spill rows ≡ areas
-rows_read [] spill [] spells = refl
-rows_read [] spill (area ∷ areas) spells = absurd spells
-rows_read (row ∷ rows) spill [] spells = absurd spells
-rows_read (row ∷ rows) spill (area ∷ areas) spells = rw (row_read row spill area spells.0, rows_read rows spill areas spells.1) refl
+pub rows_read : (rows : List (List ℕ)) (spill : ℕ) (areas : List Area) → AllByRecursion IsArea areas → SpellRows rows spill areas → areas_at spill rows ≡ areas
+rows_read [] spill [] each spells = refl
+rows_read [] spill (area ∷ areas) each spells = absurd spells
+rows_read (row ∷ rows) spill [] each spells = absurd spells
+rows_read (row ∷ rows) spill (area ∷ areas) each spells = rw (row_read row spill area each.0 spells.0, rows_read rows spill areas each.1 spells.1) refl
 
 are_rows : (rows : List (List ℕ)) (spill : ℕ) (areas : List Area) → SpellRows rows spill areas → list_all (λ row. not (not (is_row row))) rows ≡ true
 are_rows [] spill areas spells = refl

@@ -1,25 +1,26 @@
-use Rattle.std.proofs.Common.{◌≡◌, ℕ, ◌<◌, ◌≤◌, ◌^◌, List, [], ◌∷◌, ◌++◌, length, get_or, refl, ap, ◌∙◌, arith, append_assoc, zero-add}
+use Rattle.std.proofs.Common.{◌≡◌, ℕ, ◌+◌, ◌<◌, ◌≤◌, ◌^◌, List, [], ◌∷◌, ◌++◌, length, get_or, refl, sym, ap, subst, ◌∙◌, arith, append_assoc, zero-add}
 use Rattle.std.specs.Prelude.{◌≢◌, AllPairs, Contains, Option, Some, None, IfSome, codes}
 use Rattle.std.specs.Fmt.{decimal}
 use Rattle.std.specs.List.{AllByRecursion}
 use Rattle.std.specs.Str.Lines.{lines}
+use Rattle.std.proofs.lemmas.List.{length-map}
 use Rattle.std.proofs.lemmas.List.Elements.{All-from_recursion, Contains-append_right}
 use Rattle.std.proofs.lemmas.List.Kept.{AllPairs-cons}
-use Rattle.rv_line.specs.Emitted.{emitted, header_text, areas_text, lines_text, is_labelled, label_name, target_of}
+use Rattle.rv_line.specs.Emitted.{emitted, as_emitted, emitted_places, header_text, areas_text, lines_text, is_labelled, label_name, target_of}
 use Rattle.rv_line.specs.Fits.{Fits}
 use Rattle.rv_line.specs.Instructions.{IsGlobal}
 use Rattle.rv_line.specs.Parts.{Parts}
-use Rattle.rv_line.specs.Rows.{HasRow}
-use Rattle.rv_line.specs.Spells.{Spells}
+use Rattle.rv_line.specs.Spells.{Spells, SpellLines}
 use Rattle.rv_line.specs.Spells.SaysNothing.{section, global}
 use Rattle.rv_line.specs.Spells.SpellLines.{skip, label}
 use Rattle.rv_line.specs.declared.assembly.Header.{Header}
 use Rattle.rv_line.specs.declared.line.Line.{Line}
+use Rattle.rv_line.proofs.AreaLemmas.{have_rows}
 use Rattle.rv_line.proofs.BodyLemmas.{body_lines, labels_defined, label_names, lines_body, spelled_body, targets_defined, labels_differ, IsLater, names_later, HasLabel, Says-itself}
 use Rattle.rv_line.proofs.LabelLemmas.{targets_within}
 use Rattle.rv_line.proofs.LinesLemmas.{IsPlain, IsPlain-append, lines_more}
 use Rattle.rv_line.proofs.NumberLemmas.{IsNumber-decimal, IsPlain-decimal}
-use Rattle.rv_line.proofs.RowLemmas.{rows, rows_spelled, lines_rows}
+use Rattle.rv_line.proofs.RowLemmas.{row, rows, rows_spelled, lines_rows}
 
 -- the lines before the program's own
 abbrev preamble : List (List ℕ)
@@ -52,8 +53,8 @@ lines_header header rest steps spill =
     )
 
 -- the lines of what is written
-lines_emitted : (parts : Parts) → Fits parts.header parts.areas parts.lines → AllByRecursion (HasRow parts.header.spill) parts.areas → lines (emitted parts) ≡ codes "# psi 1" ∷ (codes "# steps " ++ decimal parts.header.steps) ∷ (codes "# spill " ++ decimal parts.header.spill) ∷ (rows parts.header.spill parts.areas ++ (preamble ++ body_lines (is_labelled parts.lines) 0 parts.lines))
-lines_emitted parts fits has =
+lines_emitted : (parts : Parts) → Fits parts.header parts.areas parts.lines → lines (emitted parts) ≡ codes "# psi 1" ∷ (codes "# steps " ++ decimal parts.header.steps) ∷ (codes "# spill " ++ decimal parts.header.spill) ∷ (rows parts.header.spill parts.areas ++ (preamble ++ body_lines (is_labelled parts.lines) 0 parts.lines))
+lines_emitted parts fits =
     let header = parts.header in
     let areas = parts.areas in
     let program = parts.lines in
@@ -61,7 +62,7 @@ lines_emitted parts fits has =
     ap lines (grouped (header_text header) (areas_text header.spill areas) (codes ".text\n.globl psi_main\npsi_main:\n") (lines_text (is_labelled program) 0 program))
     ∙ lines_header header (areas_text header.spill areas ++ behind) fits.steps fits.spill
     ∙ ap (λ texts. codes "# psi 1" ∷ (codes "# steps " ++ decimal header.steps) ∷ (codes "# spill " ++ decimal header.spill) ∷ texts) (
-    lines_rows header.spill areas behind has
+    lines_rows header.spill areas behind (have_rows parts fits)
     ∙ ap (λ texts. rows header.spill areas ++ texts) (
     lines_preamble (lines_text (is_labelled program) 0 program)
     ∙ ap (λ texts. preamble ++ texts) (lines_body (is_labelled program) (length program) 0 program fits.line_count (zero-add (length program)) fits.in_form)
@@ -107,34 +108,42 @@ labels_all_differ program small =
 global_main : IsGlobal (codes ".globl psi_main")
 global_main = record { gap = 32 ∷ []; name = codes "psi_main"; spelled = refl; apart = refl; some = omega arith; label = refl }
 
+-- the preamble has three lines, and the header and the rows are before it
+moved : (labels : List (List ℕ × ℕ)) (one other at : ℕ) (texts : List (List ℕ)) (program : List Line) (places : List ℕ) (defined : List (List ℕ × ℕ)) → one ≡ other → SpellLines labels texts one at program places defined → SpellLines labels texts other at program places defined
+moved labels one other at texts program places defined is spelled = rw is at spelled
+
 -- what is written spells what it was made of
-pub emitted_spells : (parts : Parts) → Fits parts.header parts.areas parts.lines → AllByRecursion (HasRow parts.header.spill) parts.areas → Spells (emitted parts) parts
-emitted_spells parts fits has =
+pub emitted_spells : (parts : Parts) → Fits parts.header parts.areas parts.lines → Spells (emitted parts) (as_emitted parts)
+emitted_spells parts fits =
     let program = parts.lines in
     let labels = all_labels program in
     let steps = fits.steps in
     let spill = fits.spill in
+    let next : length parts.areas + 7 ≡ length (rows parts.header.spill parts.areas) + 4 + 1 + 1 + 1 =
+    omega (arith, length-map parts.areas (λ area. row (parts.header.spill + area.start) area)) in
     record {
       steps = decimal parts.header.steps;
       spill = decimal parts.header.spill;
       rows = rows parts.header.spill parts.areas;
       body = preamble ++ body_lines (is_labelled program) 0 program;
       labels = labels;
-      split = lines_emitted parts fits has;
+      split = lines_emitted parts fits;
       steps_number = IsNumber-decimal parts.header.steps (omega arith);
       steps_small = fits.steps;
       spill_number = IsNumber-decimal parts.header.spill (omega arith);
       spill_small = fits.spill;
-      rows_spell = rows_spelled parts.header.spill parts.areas has;
+      rows_spell = rows_spelled parts.header.spill parts.areas (have_rows parts fits);
       rows_end = refl;
       areas = fits.in_block;
       body_spells =
           skip (section (Says-itself [] (codes ".text") refl)) (
           skip (global (codes ".globl psi_main") (Says-itself [] (codes ".globl psi_main") refl) global_main) (
           label (codes "psi_main") (Says-itself [] (codes "psi_main:") refl) refl (
-          spelled_body labels (is_labelled program) (length program) 0 program fits.line_count (zero-add (length program)) fits.in_form (
+          moved labels _ _ 0 _ program _ _ next (
+          spelled_body labels (is_labelled program) (length program) (length parts.areas + 7) 0 program fits.line_count (zero-add (length program)) fits.in_form (
           all_more_labels (codes "psi_main", 0) (labels_defined (is_labelled program) 0 program) program (
           targets_defined program [] program refl (targets_within (length program) 0 program fits.in_form)
+          )
           )
           )
           )
@@ -143,3 +152,9 @@ emitted_spells parts fits has =
       labels_differ = labels_all_differ program fits.line_count;
       lines_fit = fits.in_form;
     }
+
+-- where the lines stand as in the emitted text, that is the program itself
+pub spelled_as_placed : (text : List ℕ) (parts : Parts) → parts.places ≡ emitted_places parts.areas parts.lines → Spells text (as_emitted parts) → Spells text parts
+spelled_as_placed text parts is spells =
+    let P : List ℕ → Type 0 = λ places. Spells text (record { header = parts.header; areas = parts.areas; lines = parts.lines; places = places }) in
+    subst P (sym is) spells

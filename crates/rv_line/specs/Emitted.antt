@@ -95,13 +95,22 @@ abbrev pub emitted : Parts → List ℕ
 emitted parts =
     header_text parts.header ++ areas_text parts.header.spill parts.areas ++ codes ".text\n.globl psi_main\npsi_main:\n" ++ lines_text (is_labelled parts.lines) 0 parts.lines
 
--- the lines of the text on which the lines from number `at` on stand, where `row` is the next one
+-- the places of the text where the lines from number `at` on stand, each behind its label, where `next` is the next place
 abbrev pub places_from : (ℕ → Bool) → ℕ → ℕ → List Line → List ℕ
-places_from labelled row at [] = []
-places_from labelled row at (line ∷ lines) =
-    let place = row + (if labelled at then 1 else 0) in
+places_from labelled next at [] = []
+places_from labelled next at (line ∷ lines) =
+    let place = next + (if labelled at then 1 else 0) in
     place ∷ places_from labelled (place + 1) (at + 1) lines
 
 -- the same of the emitted text: three lines of the header, a row an area, and three lines stand before
 abbrev pub emitted_places : List Area → List Line → List ℕ
 emitted_places areas lines = places_from (is_labelled lines) (length areas + 7) 0 lines
+
+-- the same program, with its lines where the emitted text has them
+abbrev pub as_emitted : Parts → Parts
+as_emitted parts = record {
+  header = parts.header;
+  areas = parts.areas;
+  lines = parts.lines;
+  places = emitted_places parts.areas parts.lines;
+}

@@ -1,5 +1,7 @@
 use Rattle.std.specs.Prelude.{ℕ, ◌+◌, ◌*◌, ◌^◌, ◌≤◌, ◌<◌, ◌≡◌, ◌≢◌, ℤ, pos, negsuc, ◌≤ℤ◌, List, [], ◌∷◌, length, map, AllPairs}
-use Rattle.shapes_core.specs.Shape.{total}
+use Rattle.std.specs.List.{AllByRecursion}
+use Rattle.shapes_core.specs.Name.{IsName}
+use Rattle.shapes_core.specs.Shape.{IsShape, total}
 use Rattle.shapes_core.specs.declared.area.Area.{Area}
 use Rattle.shapes_core.specs.declared.area.AreaKind.{AreaKind}
 use Rattle.shapes_core.specs.declared.area.AreaKind.TheVariants.{In, Out, Scan}
@@ -11,7 +13,7 @@ use Rattle.rv_line.specs.declared.line.Line.{Line}
 use Rattle.rv_line.specs.declared.line.Line.TheVariants.{Three as ThreeLine, Imm as ImmLine, Load as LoadLine, Store as StoreLine, Branch as BranchLine, Lui, Auipc, Jal, Jalr, Fence, Ecall, Ebreak}
 
 -- a signed immediate of 12 bits
-pub record IsSmall (imm : ℤ) : Type 0 where
+pub record IsImmediate (imm : ℤ) : Type 0 where
   pub low : negsuc 2047 ≤ℤ imm
   pub high : imm ≤ℤ pos 2047
 
@@ -24,21 +26,21 @@ pub record IsShift (most imm : ℤ) : Type 0 where
 abbrev pub IsUpper : ℕ → Type 0
 IsUpper imm = imm ≤ 1048575
 
--- what the mnemonic takes as its immediate
-abbrev pub IsImm : Imm → ℤ → Type 0
-IsImm Addi imm = IsSmall imm
-IsImm Slti imm = IsSmall imm
-IsImm Sltiu imm = IsSmall imm
-IsImm Xori imm = IsSmall imm
-IsImm Ori imm = IsSmall imm
-IsImm Andi imm = IsSmall imm
-IsImm Slli imm = IsShift (pos 63) imm
-IsImm Srli imm = IsShift (pos 63) imm
-IsImm Srai imm = IsShift (pos 63) imm
-IsImm Addiw imm = IsSmall imm
-IsImm Slliw imm = IsShift (pos 31) imm
-IsImm Srliw imm = IsShift (pos 31) imm
-IsImm Sraiw imm = IsShift (pos 31) imm
+-- the mnemonic accepts the immediate
+abbrev pub Accepts : Imm → ℤ → Type 0
+Accepts Addi imm = IsImmediate imm
+Accepts Slti imm = IsImmediate imm
+Accepts Sltiu imm = IsImmediate imm
+Accepts Xori imm = IsImmediate imm
+Accepts Ori imm = IsImmediate imm
+Accepts Andi imm = IsImmediate imm
+Accepts Slli imm = IsShift (pos 63) imm
+Accepts Srli imm = IsShift (pos 63) imm
+Accepts Srai imm = IsShift (pos 63) imm
+Accepts Addiw imm = IsImmediate imm
+Accepts Slliw imm = IsShift (pos 31) imm
+Accepts Srliw imm = IsShift (pos 31) imm
+Accepts Sraiw imm = IsShift (pos 31) imm
 
 -- in a program of `count` lines of 4 bytes, what line `at` may have as its target: a line or the end, and at most `low` bytes
 -- before the line, or `high` bytes behind it
@@ -69,13 +71,13 @@ pub record FitsThree (rd rs1 rs2 : ℕ) : Type 0 where
 pub record FitsImm (code : Imm) (rd rs1 : ℕ) (amount : ℤ) : Type 0 where
   pub to : IsRegister rd
   pub from : IsRegister rs1
-  pub imm : IsImm code amount
+  pub imm : Accepts code amount
 
 -- a register, and an address as an offset from another
 pub record FitsAddress (register rs1 : ℕ) (offset : ℤ) : Type 0 where
   pub operand : IsRegister register
   pub base : IsRegister rs1
-  pub imm : IsSmall offset
+  pub imm : IsImmediate offset
 
 -- a register and the upper bits of a word
 pub record FitsUpper (rd upper : ℕ) : Type 0 where
@@ -83,15 +85,15 @@ pub record FitsUpper (rd upper : ℕ) : Type 0 where
   pub imm : IsUpper upper
 
 -- two registers and a target
-pub record FitsBranch (count at rs1 rs2 label : ℕ) : Type 0 where
+pub record FitsBranch (count at rs1 rs2 number : ℕ) : Type 0 where
   pub left : IsRegister rs1
   pub right : IsRegister rs2
-  pub target : IsBranchTarget count at label
+  pub target : IsBranchTarget count at number
 
 -- a register and a target
-pub record FitsJump (count at rd label : ℕ) : Type 0 where
+pub record FitsJump (count at rd number : ℕ) : Type 0 where
   pub to : IsRegister rd
-  pub target : IsJumpTarget count at label
+  pub target : IsJumpTarget count at number
 
 -- the line of number `at`, of `count`, is an instruction of RV64IM, with its fields in the ranges of its form
 abbrev pub FitsLine : ℕ → ℕ → Line → Type 0
@@ -141,16 +143,28 @@ names (In name ∷ kinds) = name ∷ names kinds
 names (Out name ∷ kinds) = name ∷ names kinds
 names (Scan number ∷ kinds) = names kinds
 
--- the first area starts here, and each next one where the one before ends
-abbrev pub StartFrom : ℕ → List Area → Type 0
-StartFrom start [] = Unit {0}
-StartFrom start (area ∷ areas) = (area.start ≡ start) × StartFrom (start + total area.shape) areas
+-- the first area starts at this word, and each next one where the one before ends
+abbrev pub ArePacked : ℕ → List Area → Type 0
+ArePacked start [] = Unit {0}
+ArePacked start (area ∷ areas) = (area.start ≡ start) × ArePacked (start + total area.shape) areas
+
+-- the name of an input or an output is one
+abbrev pub IsNamed : AreaKind → Type 0
+IsNamed (In name) = IsName name
+IsNamed (Out name) = IsName name
+IsNamed (Scan number) = Unit {0}
+
+-- the area of an array: its name, where it has one, and its shape are such
+pub record IsArea (area : Area) : Type 0 where
+  pub named : IsNamed area.kind
+  pub shaped : IsShape area.shape
 
 -- the areas of a block, one behind the other
 pub record AreAreas (areas : List Area) : Type 0 where
+  pub each : AllByRecursion IsArea areas
   pub in_order : AreInOrder (map (λ area. area.kind) areas)
   pub differ : AllPairs (λ one other. one ≢ other) (names (map (λ area. area.kind) areas))
-  pub packed : StartFrom 0 areas
+  pub packed : ArePacked 0 areas
 
 -- what has a spelling, within the limits of the format
 pub record Fits (header : Header) (areas : List Area) (lines : List Line) : Type 0 where

@@ -1,4 +1,5 @@
 pub mod Emitted
+pub mod FitExamples
 pub mod Fits
 pub mod Instructions
 pub mod Labels

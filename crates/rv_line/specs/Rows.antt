@@ -1,7 +1,5 @@
-use Rattle.std.specs.Prelude.{ℕ, ◌+◌, ◌^◌, ◌<◌, ◌≡◌, Bool, ◌||◌, nat_eq, List, [], ◌∷◌, ◌++◌, codes}
+use Rattle.std.specs.Prelude.{ℕ, ◌+◌, ◌≡◌, Bool, ◌||◌, nat_eq, List, [], ◌∷◌, ◌++◌, codes}
 use Rattle.std.specs.List.{flat_map, starts_with}
-use Rattle.shapes_core.specs.Name.{IsName}
-use Rattle.shapes_core.specs.Shape.{IsShape}
 use Rattle.shapes_core.specs.declared.area.Area.{Area}
 use Rattle.shapes_core.specs.declared.area.AreaKind.{AreaKind}
 use Rattle.shapes_core.specs.declared.area.AreaKind.TheVariants.{In, Out, Scan}
@@ -13,8 +11,8 @@ is_row line = starts_with nat_eq line (codes "# in ") || starts_with nat_eq line
 
 -- the front of a row: what the area is
 abbrev pub SpellsKind : List ℕ → AreaKind → Type 0
-SpellsKind front (In name) = (front ≡ codes "# in " ++ name) × IsName name
-SpellsKind front (Out name) = (front ≡ codes "# out " ++ name) × IsName name
+SpellsKind front (In name) = front ≡ codes "# in " ++ name
+SpellsKind front (Out name) = front ≡ codes "# out " ++ name
 SpellsKind front (Scan number) = (digits : List ℕ) × (front ≡ codes "# scan " ++ digits) × IsNumber digits number
 
 -- parts, with a blank before each
@@ -30,7 +28,6 @@ pub record SpellsRow (row : List ℕ) (word : ℕ) (area : Area) : Type 0 where
   pub kind : SpellsKind front area.kind
   pub begins : IsNumber offset word
   pub shape : AreNumbers extents area.shape
-  pub small : IsShape area.shape
 
 -- a row for each area, behind so many spill words
 abbrev pub SpellRows : List (List ℕ) → ℕ → List Area → Type 0
@@ -38,15 +35,3 @@ SpellRows [] spill [] = Unit {0}
 SpellRows [] spill (area ∷ areas) = ⊥
 SpellRows (row ∷ rows) spill [] = ⊥
 SpellRows (row ∷ rows) spill (area ∷ areas) = SpellsRow row (spill + area.start) area × SpellRows rows spill areas
-
--- what the type of an area says of its kind
-abbrev pub IsKind : AreaKind → Type 0
-IsKind (In name) = IsName name
-IsKind (Out name) = IsName name
-IsKind (Scan number) = number < 2 ^ 32
-
--- what is known of each area whose row is written: a name, a shape and an offset of 64 bits
-pub record HasRow (spill : ℕ) (area : Area) : Type 0 where
-  pub kind : IsKind area.kind
-  pub shape : IsShape area.shape
-  pub offset : spill + area.start < 2 ^ 64

@@ -4,16 +4,16 @@ use Rattle.rv_line.specs.Parts.{Parts}
 use Rattle.rv_line.specs.declared.line.Line.TheVariants.{Store as StoreLine, Lui}
 use Rattle.rv_line.specs.declared.line.Store.TheVariants.{Sd}
 
--- a program that writes -2147483648 to its only output
+-- a program that writes -2147483648 to its only output, with its lines at these places of a text
 abbrev pub small_text : List ℕ
 small_text = codes "# psi 1\n# steps 2\n# spill 0\n# out C 0\nlui x5, 524288\nsd x5, 0(x10)\n"
 
-abbrev pub small_parts : Parts
-small_parts = record {
+abbrev pub small_parts : List ℕ → Parts
+small_parts places = record {
   header = record { steps = 2; spill = 0 };
   areas = record { kind = Out (codes "C"); shape = []; start = 0 } ∷ [];
   lines = Lui 5 524288 ∷ StoreLine Sd 5 (pos 0) 10 ∷ [];
-  places = 5 ∷ 6 ∷ [];
+  places = places;
 }
 
 -- the same program, spelled with a label, blanks, comments, carriage returns, leading zeros and no last line feed

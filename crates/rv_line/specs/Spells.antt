@@ -13,25 +13,26 @@ pub data SaysNothing : List ℕ → Type 0 where
   section : {text : List ℕ} → Says text (codes ".text") → SaysNothing text
   global : {text : List ℕ} (core : List ℕ) → Says text core → IsGlobal core → SaysNothing text
 
--- the texts of lines, the number of the next instruction, the instructions from it on, and the labels that these texts define. `labels` are those of the whole body
-pub data SpellLines (labels : List (List ℕ × ℕ)) : List (List ℕ) → ℕ → List Line → List (List ℕ × ℕ) → Type 0 where
-  end : {at : ℕ} → SpellLines labels [] at [] []
-  skip : {text : List ℕ} {texts : List (List ℕ)} {at : ℕ} {program : List Line} {defined : List (List ℕ × ℕ)} →
-      SaysNothing text → SpellLines labels texts at program defined →
-      SpellLines labels (text ∷ texts) at program defined
-  label : {text : List ℕ} {texts : List (List ℕ)} {at : ℕ} {program : List Line} {defined : List (List ℕ × ℕ)} (name : List ℕ) →
-      Says text (name ++ codes ":") → IsLabel name → SpellLines labels texts at program defined →
-      SpellLines labels (text ∷ texts) at program ((name, at) ∷ defined)
-  instruction : {text : List ℕ} {texts : List (List ℕ)} {at : ℕ} {line : Line} {program : List Line} {defined : List (List ℕ × ℕ)} (core : List ℕ) →
-      Says text core → SpellsLine labels core line → SpellLines labels texts (at + 1) program defined →
-      SpellLines labels (text ∷ texts) at (line ∷ program) defined
+-- the texts of lines, of which the first is line `place` of the whole text; the number of the next instruction, the instructions from it on,
+-- the places where these stand, and the labels that these texts define. `labels` are those of the whole body
+pub data SpellLines (labels : List (List ℕ × ℕ)) : List (List ℕ) → ℕ → ℕ → List Line → List ℕ → List (List ℕ × ℕ) → Type 0 where
+  end : {place at : ℕ} → SpellLines labels [] place at [] [] []
+  skip : {text : List ℕ} {texts : List (List ℕ)} {place at : ℕ} {program : List Line} {places : List ℕ} {defined : List (List ℕ × ℕ)} →
+      SaysNothing text → SpellLines labels texts (place + 1) at program places defined →
+      SpellLines labels (text ∷ texts) place at program places defined
+  label : {text : List ℕ} {texts : List (List ℕ)} {place at : ℕ} {program : List Line} {places : List ℕ} {defined : List (List ℕ × ℕ)} (name : List ℕ) →
+      Says text (name ++ codes ":") → IsLabel name → SpellLines labels texts (place + 1) at program places defined →
+      SpellLines labels (text ∷ texts) place at program places ((name, at) ∷ defined)
+  instruction : {text : List ℕ} {texts : List (List ℕ)} {place at : ℕ} {line : Line} {program : List Line} {places : List ℕ} {defined : List (List ℕ × ℕ)} (core : List ℕ) →
+      Says text core → SpellsLine labels core line → SpellLines labels texts (place + 1) (at + 1) program places defined →
+      SpellLines labels (text ∷ texts) place at (line ∷ program) (place ∷ places) defined
 
 -- the areas' rows end where a line begins otherwise
 abbrev pub EndsRows : List (List ℕ) → Type 0
 EndsRows [] = Unit {0}
 EndsRows (text ∷ texts) = is_row text ≡ false
 
--- the bytes are an assembly text with this header, these areas and these lines. Where its lines stand is left open
+-- the bytes are an assembly text with this header, these areas and these lines, which stand at these places of it
 pub record Spells (text : List ℕ) (parts : Parts) : Type 0 where
   pub steps : List ℕ
   pub spill : List ℕ
@@ -46,6 +47,6 @@ pub record Spells (text : List ℕ) (parts : Parts) : Type 0 where
   pub rows_spell : SpellRows rows parts.header.spill parts.areas
   pub rows_end : EndsRows body
   pub areas : AreAreas parts.areas
-  pub body_spells : SpellLines labels body 0 parts.lines labels
+  pub body_spells : SpellLines labels body (length rows + 4) 0 parts.lines parts.places labels
   pub labels_differ : AllPairs (λ one other. one ≢ other) (map (λ label. label.0) labels)
   pub lines_fit : FitLines (length parts.lines) 0 parts.lines

@@ -67,7 +67,7 @@ impl Assembly {
             assembly.places ≡ emitted_places areas.items lines.items) }
     {
         let labelled = labels(alloc, &lines)?;
-        let places = places(alloc, areas.len(), &lines, &labelled)?;
+        let places = places(alloc, areas.len() as u32 + 7, &lines, &labelled)?;
         Ok(Assembly {
             header,
             areas,

@@ -9,13 +9,12 @@ ghost use Rattle.rv_line.specs.Emitted.{
   extents_text,
   lines_text,
   is_labelled,
+  as_emitted,
+  emitted_places,
 };
 ghost use Rattle.rv_line.specs.Labels.{AreLabels};
-ghost use Rattle.rv_line.specs.Rows.{IsKind, HasRow};
 ghost use Rattle.rv_line.specs.Spells.{Spells};
-ghost use Rattle.shapes_core.specs.Shape.{IsShape};
-ghost use Rattle.std.specs.List.{AllByRecursion};
-ghost use Rattle.rv_line.specs.Fits.{StartFrom};
+ghost use Rattle.rv_line.specs.Fits.{ArePacked};
 
 use crate::assembly::{Assembly, Header};
 use crate::instruction::{push_instruction, push_number, push_text};
@@ -25,11 +24,12 @@ use shapes_core::{Area, AreaKind, NoMemory, Shape, total};
 use std::alloc::Global;
 
 /// Writes the program in the spelling that is emitted: the header, the rows of the areas, and a line
-/// for each instruction and each label. The lines stand where `text_line` says if the program comes
-/// from `Assembly::new`.
+/// for each instruction and each label.
 pub fn text(alloc: Global, program: &Assembly) -> Result<Vec<u8>, NoMemory>
     ensures exact { IfOk result (λ bytes. bytes.items ≡ emitted program.now) }
-    ensures spells { IfOk result (λ bytes. Spells bytes.items program.now) }
+    ensures spells { IfOk result (λ bytes. Spells bytes.items (as_emitted program.now)) }
+    ensures placed { program.now.places ≡ emitted_places program.now.areas program.now.lines
+        → IfOk result (λ bytes. Spells bytes.items program.now) }
 {
     let lines = program.lines();
     let labelled = labels(alloc, lines)?;
@@ -53,11 +53,10 @@ fn push_header(out: &mut Vec<u8>, header: Header) -> Result<(), NoMemory>
 }
 
 fn push_areas(out: &mut Vec<u8>, spill: u64, areas: &[Area]) -> Result<(), NoMemory>
-    requires packed { StartFrom 0 areas.now }
+    requires packed { ArePacked 0 areas.now }
     requires count { length areas.now ≤ 2 ^ 30 }
     requires spill { spill ≤ 134217728 }
-    ensures text { OnOk result (out.new.items ≡ out.old.items ++ areas_text spill areas.now) }
-    ensures rows { OnOk result (AllByRecursion (HasRow spill) areas.now) }
+    ensures { OnOk result (out.new.items ≡ out.old.items ++ areas_text spill areas.now) }
 {
     let mut offset = spill;
     for area in areas {
@@ -68,9 +67,7 @@ fn push_areas(out: &mut Vec<u8>, spill: u64, areas: &[Area]) -> Result<(), NoMem
 }
 
 fn push_area(out: &mut Vec<u8>, offset: u64, area: &Area) -> Result<(), NoMemory>
-    ensures text { OnOk result (out.new.items ≡ out.old.items ++ area_text offset area.now) }
-    ensures kind { OnOk result (IsKind area.now.kind) }
-    ensures shape { OnOk result (IsShape area.now.shape) }
+    ensures { OnOk result (out.new.items ≡ out.old.items ++ area_text offset area.now) }
 {
     push_kind(out, &area.kind)?;
     push_text(out, " ")?;
@@ -80,8 +77,7 @@ fn push_area(out: &mut Vec<u8>, offset: u64, area: &Area) -> Result<(), NoMemory
 }
 
 fn push_kind(out: &mut Vec<u8>, kind: &AreaKind) -> Result<(), NoMemory>
-    ensures text { OnOk result (out.new.items ≡ out.old.items ++ kind_text kind.now) }
-    ensures kind { OnOk result (IsKind kind.now) }
+    ensures { OnOk result (out.new.items ≡ out.old.items ++ kind_text kind.now) }
 {
     match kind {
         AreaKind::In(name) => {
@@ -101,8 +97,7 @@ fn push_kind(out: &mut Vec<u8>, kind: &AreaKind) -> Result<(), NoMemory>
 }
 
 fn push_extents(out: &mut Vec<u8>, shape: &Shape) -> Result<(), NoMemory>
-    ensures text { OnOk result (out.new.items ≡ out.old.items ++ extents_text shape.now) }
-    ensures shape { OnOk result (IsShape shape.now) }
+    ensures { OnOk result (out.new.items ≡ out.old.items ++ extents_text shape.now) }
 {
     for extent in shape.extents() {
         push_text(out, " ")?;

@@ -1,5 +1,5 @@
 // Which lines have a label, and where the lines stand in the emitted text.
-ghost use Rattle.std.specs.Prelude.{◌≡◌, ◌+◌, ◌≤◌, ◌^◌, ◌++◌, IfOk, OnOk, length};
+ghost use Rattle.std.specs.Prelude.{◌≡◌, ◌+◌, ◌≤◌, ◌<◌, ◌^◌, ◌++◌, IfOk, OnOk, length};
 ghost use Rattle.rv_line.specs.Emitted.{target_of, places_from, is_labelled, label_text};
 ghost use Rattle.rv_line.specs.Labels.{AreLabels, TargetsWithin};
 
@@ -34,27 +34,28 @@ pub fn labels(alloc: Global, lines: &[Line]) -> Result<Vec<bool>, NoMemory>
     Ok(labelled)
 }
 
-/// The lines of the emitted text on which the program's lines stand, counted from 1.
+/// The places of the emitted text where the program's lines stand, and `first` is the place behind the
+/// program's own label.
 pub fn places(
     alloc: Global,
-    areas: usize,
+    first: u32,
     lines: &[Line],
     labelled: &[bool],
 ) -> Result<Vec<u32>, NoMemory>
     requires labels { AreLabels lines.now labelled.now }
-    requires areas { areas ≤ 2 ^ 30 }
+    requires first { first < 2 ^ 31 }
     requires count { length lines.now ≤ 2 ^ 30 }
     ensures { IfOk result (λ places.
-        places.items ≡ places_from (is_labelled lines.now) (areas + 7) 0 lines.now) }
+        places.items ≡ places_from (is_labelled lines.now) first 0 lines.now) }
 {
     let mut places = Vec::with_capacity(alloc, lines.len())?;
-    let mut row = areas as u32 + 7;
+    let mut place = first;
     for at in 0..lines.len() {
         if labelled[at] {
-            row += 1;
+            place += 1;
         }
-        places.push(row)?;
-        row += 1;
+        places.push(place)?;
+        place += 1;
     }
     Ok(places)
 }

@@ -4,6 +4,7 @@
 mod assembly;
 mod emitted;
 mod examples;
+mod fit_examples;
 mod instruction;
 mod label;
 mod line;
@@ -15,4 +16,5 @@ mod tests;
 pub use assembly::{Assembly, Header};
 pub use emitted::text;
 pub use examples::spelling_examples;
+pub use fit_examples::{area_examples, field_examples, header_examples, target_examples};
 pub use line::{Branch, Imm, Line, Load, Store, Three};

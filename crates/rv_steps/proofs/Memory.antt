@@ -125,12 +125,15 @@ same_bytes n at xs ys long same =
     let inside : k < n = omega (arith, length-take n (drop at xs)) in
     get_or-take n (drop at xs) k 0 inside ∙ get_or-drop at xs k 0 ∙ same (at + k) (omega arith) (omega arith) ∙ sym (get_or-drop at ys k 0) ∙ sym (get_or-take n (drop at ys) k 0 inside))
 
+-- a value of the same bytes
+pub value-same : (w : Width) (place : ℕ) (xs ys : List ℕ) → length xs ≡ length ys → ((k : ℕ) → place ≤ k → k < place + byte_len w → slice_index xs k ≡ slice_index ys k) → value_at w xs place ≡ value_at w ys place
+value-same w place xs ys long same =
+    value_at-is w xs place ∙ ap (λ (bytes : List ℕ). from_le_bytes w bytes) (same_bytes (byte_len w) place xs ys long same) ∙ sym (value_at-is w ys place)
+
 pub value_elsewhere : (w u : Width) (block : List ℕ) (place value other : ℕ) → place + byte_len w ≤ length block → (other + byte_len u ≤ place) ⊎ (place + byte_len w ≤ other) → value_at u (with_value w block place value) other ≡ value_at u block other
 value_elsewhere w u block place value other inside apart =
-    value_at-is u (with_value w block place value) other
-    ∙ ap (λ (xs : List ℕ). from_le_bytes u xs) (same_bytes (byte_len u) other (with_value w block place value) block (length-with_value w block place value inside)
-    (λ k low high. kept w block place value k inside (elim apart [ inl below ↦ inl (omega arith) | inr above ↦ inr (omega arith) ])))
-    ∙ sym (value_at-is u block other)
+    value-same u other (with_value w block place value) block (length-with_value w block place value inside)
+    (λ k low high. kept w block place value k inside (elim apart [ inl below ↦ inl (omega arith) | inr above ↦ inr (omega arith) ]))
 
 -- words at multiples of 8
 pub word_elsewhere : (block : List ℕ) (i j value : ℕ) → 8 * i + 8 ≤ length block → i ≢ j → value_at w64 (with_value w64 block (8 * i) value) (8 * j) ≡ value_at w64 block (8 * j)

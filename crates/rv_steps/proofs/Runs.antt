@@ -1,11 +1,10 @@
 -- Chains of steps: they compose, and where they end is determined.
-use Rattle.std.proofs.Common.{◌≡◌, ◌≢◌, ℕ, zero, suc, ◌+◌, ◌*◌, ◌<◌, ◌≤◌, List, length, Some, refl, sym, ap, ◌∙◌, arith}
-use Rattle.std.proofs.Math.Nat.{zero-add, suc-add, zero-mul, suc-mul}
-use Rattle.std.proofs.Math.Numerals.{add-one}
+use Rattle.std.proofs.Common.{◌≡◌, ◌≢◌, ℕ, zero, suc, ◌+◌, ◌<◌, ◌≤◌, List, length, Some, refl, sym, ap, ◌∙◌, arith}
+use Rattle.std.proofs.Math.Nat.{zero-add, suc-add}
 use Rattle.rv_line.specs.declared.line.Line.{Line}
 use Rattle.rv_steps.specs.Machine.{Config, address_of, Next, Goes, AtEnd, Halts, Stop, next_step}
 use Rattle.rv_steps.proofs.Steps.{next_step-at_end, at_end-next_step}
-use Rattle.rv_steps.specs.Stops.{go_on, config_after, Reaches, Throughout, Along, Ends, End, Done, Budget, Stopped, Stops, Outcome, one_more, spent_outcome, longer_outcome, run}
+use Rattle.rv_steps.specs.Stops.{go_on, config_after, Reaches, Ends, End, Done, Budget, Stopped, Stops, Outcome, one_more, spent_outcome, longer_outcome, run}
 
 same_outcome : (e f : End) (d g : Config) → ◌≡◌ {A = Outcome} (record { end = e; last = d }) (record { end = f; last = g }) → (e ≡ f) × (d ≡ g)
 same_outcome e f d g h = (ap (λ (o : Outcome). o.end) h, ap (λ (o : Outcome). o.last) h)
@@ -138,42 +137,3 @@ module _ (lines : List Line) (base : ℕ) where
   stops_within budget more c Budget d le ne h = absurd (ne refl)
   stops_within budget more c (Stopped stop) d le ne h =
       record { steps = h.steps; within = omega arith; reaches = h.reaches; stopped = h.stopped }
-
-  -- ---- chains of which each step satisfies P
-
-  module _ (P : Config → Type 0) where
-    pub along_none : (c : Config) → Along P lines base 0 c c
-    along_none c = record { reaches = reaches_none c; throughout = λ k d below r. absurd (omega arith) }
-
-    throughout_later : (n : ℕ) (c m : Config) → P c → next_step lines base c ≡ Goes m → Throughout P lines base n m → (k : ℕ) (d : Config) → k < suc n → Reaches lines base k c d → P d
-    throughout_later n c m here e more zero d below r = let same = reaches_zero c d r in rw same at here
-    throughout_later n c m here e more (suc k) d below r =
-        let s = first_step k c d r in
-        let same : s.0 ≡ m = cc in
-        more k d (omega arith) (rw same at s.2)
-
-    pub along_step : (n : ℕ) (c m d : Config) → P c → next_step lines base c ≡ Goes m → Along P lines base n m d → Along P lines base (suc n) c d
-    along_step n c m d here e more =
-        record { reaches = reaches_later n c m d e more.reaches; throughout = throughout_later n c m here e more.throughout }
-
-    pub along_more : (m n : ℕ) (c d e : Config) → Along P lines base m c d → Along P lines base n d e → Along P lines base (m + n) c e
-    along_more zero n c d e first second =
-        let same = reaches_zero c d first.reaches in rw (zero-add, same) second
-    along_more (suc m) n c d e first second =
-        let s = first_step m c d first.reaches in
-        let rest : Along P lines base m s.0 d = record { reaches = s.2; throughout = λ k x below r. first.throughout (suc k) x (omega arith) (reaches_later k c s.0 x s.1 r) } in
-        rw suc-add (along_step (m + n) c s.0 e (first.throughout 0 c (omega arith) (reaches_none c)) s.1 (along_more m n s.0 d e rest second))
-
-    -- a loop: turn k leads from I k to I (k + 1) in `size` steps
-    pub along_turns : (I : ℕ → Config → Type 0) (size turns : ℕ) → ((k : ℕ) (c : Config) → k < turns → I k c → (d : Config) × Along P lines base size c d × I (k + 1) d) → (c : Config) → I 0 c → (d : Config) × Along P lines base (turns * size) c d × I turns d
-    along_turns I size zero turn c i = (c, rw zero-mul (along_none c), i)
-    along_turns I size (suc n) turn c i =
-        let front = along_turns I size n (λ k d below h. turn k d (omega arith) h) c i in
-        let last = turn n front.0 (omega arith) front.2 in
-        (last.0, rw suc-mul (along_more (n * size) size c front.0 last.0 front.1 last.1), rw add-one at last.2)
-
-    -- the same, where each turn's configuration is known
-    pub along_tour : (size turns : ℕ) (at : ℕ → Config) → ((k : ℕ) → k < turns → Along P lines base size (at k) (at (k + 1))) → Along P lines base (turns * size) (at 0) (at turns)
-    along_tour size turns at turn =
-        let whole = along_turns (λ k c. c ≡ at k) size turns (λ k c below e. (at (k + 1), rw e (turn k below), refl)) (at 0) refl in
-        rw whole.2 at whole.1

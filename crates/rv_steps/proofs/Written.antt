@@ -26,7 +26,7 @@ more-written word count value before after now room small =
     other j (inl below) inside = word_elsewhere after (word + count) j (value count) inside (omega arith) ∙ now.others j (inl below)
     other j (inr above) inside = word_elsewhere after (word + count) j (value count) inside (omega arith) ∙ now.others j (inr (omega arith))
 
-same_values : (f g : ℕ → ℤ) (a n : ℕ) → ((i : ℕ) → i < n → f (a + i) ≡ g (a + i)) → map f (range_with_len a n) ≡ map g (range_with_len a n)
+pub same_values : (f g : ℕ → ℤ) (a n : ℕ) → ((i : ℕ) → i < n → f (a + i) ≡ g (a + i)) → map f (range_with_len a n) ≡ map g (range_with_len a n)
 same_values f g a zero same = refl
 same_values f g a (suc n) same =
     let here : f a ≡ g a = ap f (omega arith) ∙ same 0 (omega arith) ∙ ap g (omega arith) in

@@ -1,16 +1,17 @@
 -- What a program does for its caller: from any block that is as long as the header says, it ends within the printed steps, with every
 -- output holding what is demanded of the inputs, and touches nothing else. This is what a compiled text is good for.
-use Rattle.std.specs.Prelude.{◌≡◌, ℕ, ◌+◌, ◌*◌, ◌%◌, ◌^◌, ◌≤◌, Bool, true, false, not, ◌&&◌, ◌||◌, ◌==◌, nat_le, IsTrue, List, length, map, filter, ℤ}
+use Rattle.std.specs.Prelude.{◌≡◌, ℕ, ◌+◌, ◌*◌, ◌%◌, ◌^◌, ◌≤◌, Bool, true, false, not, ◌&&◌, ◌||◌, ◌==◌, nat_le, All, IsTrue, List, length, map, filter, ℤ}
 use Rattle.std.specs.List.{list_any, range_with_len}
 use Rattle.std.specs.Int.{w64}
 use Rattle.shapes_core.specs.Shape.{total}
 use Rattle.shapes_core.specs.declared.area.Area.{Area}
 use Rattle.shapes_core.specs.declared.area.AreaKind.{AreaKind}
 use Rattle.shapes_core.specs.declared.area.AreaKind.TheVariants.{In, Out, Scan}
+use Rattle.rv_steps.specs.Accesses.{accesses_of}
 use Rattle.rv_steps.specs.Effects.{signed_value}
-use Rattle.rv_steps.specs.Machine.{Access, Config, IsValid, Loads, NoAccess, Stores, access_at, address_of, register_at, value_at}
+use Rattle.rv_steps.specs.Machine.{Access, Config, IsValid, Loads, NoAccess, Stores, address_of, register_at, value_at}
 use Rattle.rv_line.specs.Parts.{block_words}
-use Rattle.rv_steps.specs.Stops.{Ends, Throughout}
+use Rattle.rv_steps.specs.Stops.{Ends}
 use Rattle.rv_line.specs.declared.assembly.Header.{Header}
 use Rattle.rv_line.specs.declared.line.Line.{Line}
 
@@ -73,11 +74,8 @@ is_fine_access header areas base NoAccess = true
 is_fine_access header areas base (Loads at size) = is_fine_load header areas base at size
 is_fine_access header areas base (Stores at size) = is_fine_store header areas base at size
 
--- what the next step touches is fine
-abbrev pub is_fine_step : Header → List Area → List Line → ℕ → Config → Bool
-is_fine_step header areas lines base c = is_fine_access header areas base (access_at lines c)
-
--- the registers that a callee gives back as it found them: x1 to x4, x8 to x10 and x18 to x27
+-- the registers that a program gives back as it found them: those of a callee in the calling convention, x2 to x4, x8, x9 and x18 to x27, and
+-- besides the address to return to, x1, and that of the block, x10
 abbrev pub is_kept : ℕ → Bool
 is_kept r = (nat_le 1 r && nat_le r 4) || (nat_le 8 r && nat_le r 10) || (nat_le 18 r && nat_le r 27)
 
@@ -88,5 +86,5 @@ pub record Serves (header : Header) (areas : List Area) (lines : List Line) (dem
   pub ends : Ends lines base steps c last
   pub within : steps ≤ header.steps
   pub outputs : output_values header areas last.block ≡ demand (input_values header areas c.block)
-  pub inside : Throughout (λ d. IsTrue (is_fine_step header areas lines base d)) lines base steps c
+  pub inside : All (λ access. IsTrue (is_fine_access header areas base access)) (accesses_of lines base steps c)
   pub kept : (r : ℕ) → IsTrue (is_kept r) → register_at last.registers r ≡ register_at c.registers r

@@ -1,10 +1,16 @@
+pub mod Accesses
 pub mod Constants
 pub mod Effects
+pub mod Frames
 pub mod Good
+pub mod GoodExamples
 pub mod GoodText
 pub mod Kinds
+pub mod LoopExamples
 pub mod Machine
 pub mod MachineExamples
 pub mod Pieces
+pub mod Registers
 pub mod Stops
+pub mod Wrapped
 pub mod Written

@@ -3,7 +3,8 @@ use Rattle.std.specs.Prelude.{ℕ, ◌^◌, List, [], ◌∷◌, length, ℤ, po
 use Rattle.rv_line.specs.declared.line.Line.{Line}
 use Rattle.rv_line.specs.declared.line.Load.{Load}
 use Rattle.rv_line.specs.declared.line.Store.{Store}
-use Rattle.rv_steps.specs.Machine.{Config, address_of, register_at, with_register, value_at, with_value, number_at, line_at, is_allowed, next_step}
+use Rattle.rv_steps.specs.Accesses.{accesses_of}
+use Rattle.rv_steps.specs.Machine.{Access, Config, address_of, register_at, with_register, value_at, with_value, number_at, line_at, is_allowed, next_step}
 use Rattle.rv_steps.specs.Stops.{End, Outcome, run}
 
 -- at the first line, with the end address in register 1, the block's address in register 10 and 0 elsewhere, over a block of 8 bytes
@@ -27,9 +28,14 @@ end_of lines base budget = (outcome_of lines base budget).end
 abbrev pub register_after : List Line → ℕ → ℕ
 register_after lines r = register_at (outcome_of lines (2 ^ 32) 99).last.registers r
 
-abbrev pub block_after : List Line → List ℕ
-block_after lines = (outcome_of lines (2 ^ 32) 99).last.block
+abbrev pub bytes_after : List Line → List ℕ
+bytes_after lines = (outcome_of lines (2 ^ 32) 99).last.block
 
 -- what a load from an offset gives, where the block holds 2 ^ 64 - 2 ^ 32 + 0x8f0e1000: the bytes 0, 16, 14, 143 and four times 255
 abbrev pub loaded_from : Load → ℤ → ℕ
 loaded_from code imm = register_after (Line.Lui 5 0x8f0e1 ∷ Line.Store Store.Sd 5 (pos 0) 10 ∷ Line.Load code 6 imm 10 ∷ []) 6
+
+-- the loads and stores of the first steps over a block at 2 ^ 32
+unfoldable pub accesses_after : List Line → ℕ → List Access
+unfolding register_at with_register value_at with_value number_at line_at is_allowed next_step accesses_of
+accesses_after lines steps = accesses_of lines (2 ^ 32) steps (start_config lines (2 ^ 32))

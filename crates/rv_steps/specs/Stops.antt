@@ -19,15 +19,6 @@ config_after lines base (suc n) c = go_on (next_step lines base c) (λ d. config
 pub record Reaches (lines : List Line) (base n : ℕ) (c d : Config) : Type 0 where
   pub reached : config_after lines base n c ≡ Some d
 
--- P holds of each configuration from which one of the first n steps is made
-abbrev pub Throughout : (Config → Type 0) → List Line → ℕ → ℕ → Config → Type 0
-Throughout P lines base n c = (k : ℕ) (d : Config) → k < n → Reaches lines base k c d → P d
-
--- n steps lead from c to d, and P holds of each configuration from which one of them is made
-pub record Along (P : Config → Type 0) (lines : List Line) (base n : ℕ) (c d : Config) : Type 0 where
-  pub reaches : Reaches lines base n c d
-  pub throughout : Throughout P lines base n c
-
 -- n steps lead from c to the end, at d
 pub record Ends (lines : List Line) (base n : ℕ) (c d : Config) : Type 0 where
   pub reaches : Reaches lines base n c d

@@ -1,7 +1,7 @@
 // Worked examples of the machine, computed.
 #![tactic(auto, unfolding(crate::specs::MachineExamples::outcome_of))]
 
-ghost use Rattle.rv_steps.specs.MachineExamples.{block_after, end_of, loaded_from, register_after};
+ghost use Rattle.rv_steps.specs.MachineExamples.{bytes_after, end_of, loaded_from, register_after};
 ghost use Rattle.rv_steps.specs.Machine.{BadAccess, OffText, Trap, value_at, with_value};
 ghost use Rattle.rv_steps.specs.Stops.{Budget, Done, Stopped};
 ghost use Rattle.rv_line.specs.declared.line.Branch.{Branch};
@@ -94,15 +94,15 @@ pub fn memory_is_little_endian()
 
 /// A store writes the low bits of a register, and a load reads them back.
 pub fn stores_are_loaded()
-    ensures sb { block_after (Line.Imm Imm.Addi 5 0 (neg_ℤ (pos 2))
+    ensures sb { bytes_after (Line.Imm Imm.Addi 5 0 (neg_ℤ (pos 2))
         ∷ Line.Store Store.Sb 5 (pos 7) 10 ∷ [])
         ≡ 0 ∷ 0 ∷ 0 ∷ 0 ∷ 0 ∷ 0 ∷ 0 ∷ 254 ∷ [] }
-    ensures sh { block_after (Line.Imm Imm.Addi 5 0 (neg_ℤ (pos 2))
+    ensures sh { bytes_after (Line.Imm Imm.Addi 5 0 (neg_ℤ (pos 2))
         ∷ Line.Store Store.Sh 5 (pos 2) 10 ∷ [])
         ≡ 0 ∷ 0 ∷ 254 ∷ 255 ∷ 0 ∷ 0 ∷ 0 ∷ 0 ∷ [] }
-    ensures sw { block_after (Line.Lui 5 524288 ∷ Line.Store Store.Sw 5 (pos 4) 10 ∷ [])
+    ensures sw { bytes_after (Line.Lui 5 524288 ∷ Line.Store Store.Sw 5 (pos 4) 10 ∷ [])
         ≡ 0 ∷ 0 ∷ 0 ∷ 0 ∷ 0 ∷ 0 ∷ 0 ∷ 128 ∷ [] }
-    ensures sd { block_after (Line.Lui 5 524288 ∷ Line.Store Store.Sd 5 (pos 0) 10 ∷ [])
+    ensures sd { bytes_after (Line.Lui 5 524288 ∷ Line.Store Store.Sd 5 (pos 0) 10 ∷ [])
         ≡ 0 ∷ 0 ∷ 0 ∷ 128 ∷ 255 ∷ 255 ∷ 255 ∷ 255 ∷ [] }
     ensures signed { register_after (Line.Lui 5 524288
         ∷ Line.Store Store.Sd 5 (pos 0) 10 ∷ Line.Load Load.Lw 6 (pos 0) 10 ∷ []) 6

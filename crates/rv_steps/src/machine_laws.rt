@@ -3,7 +3,7 @@
 
 ghost use Rattle.rv_steps.specs.Machine.{AccessAllowed, AtEnd, Config, IsAllowed, Goes, IsAt, IsValid, access_at, access_of, address, address_of, effect, is_allowed, next_step, line_step, with_result, register_at, value_at, with_value, with_register};
 ghost use Rattle.rv_steps.specs.Effects.{immediate_value, three_value, upper_value, is_taken, load_width, load_value, store_width};
-ghost use Rattle.rv_steps.specs.Stops.{Along, Budget, End, Ends, Reaches, Stops, run};
+ghost use Rattle.rv_steps.specs.Stops.{Budget, End, Ends, Reaches, Stops, run};
 ghost use Rattle.rv_line.specs.declared.line.Branch.{Branch};
 ghost use Rattle.rv_line.specs.declared.line.Imm.{Imm};
 ghost use Rattle.rv_line.specs.declared.line.Line.{Line};
@@ -11,25 +11,12 @@ ghost use Rattle.rv_line.specs.declared.line.Load.{Load};
 ghost use Rattle.rv_line.specs.declared.line.Store.{Store};
 ghost use Rattle.rv_line.specs.declared.line.Three.{Three};
 ghost use Rattle.std.specs.Int.{Width, byte_len, w32, w64};
-ghost use Rattle.std.specs.Prelude.{All, Bool, FitsSigned, IsTrue, List, Some, false, if◌then◌else◌, length, nat_lt, slice_get, slice_index, true, ℕ, ℤ, ◌*◌, ◌+◌, ◌<◌, ◌^◌, ◌≡◌, ◌≢◌, ◌==◌, ◌&&◌, ◌≤◌, ◌↔◌, ◌⊎◌};
+ghost use Rattle.std.specs.Prelude.{All, FitsSigned, List, Some, false, if◌then◌else◌, length, nat_lt, slice_get, slice_index, true, ℕ, ℤ, ◌*◌, ◌+◌, ◌<◌, ◌^◌, ◌≡◌, ◌≢◌, ◌==◌, ◌&&◌, ◌≤◌, ◌↔◌, ◌⊎◌};
 
-/// Chains of steps compose, and their steps add up, also where a test holds before each step. A loop
-/// is a chain of its turns: `at k` is the configuration after k of them.
+/// Chains of steps compose, and their steps add up.
 pub fn chains_compose()
     ensures steps { (lines : List Line) (base m n : ℕ) (c d e : Config) → Reaches lines base m c d
         → Reaches lines base n d e → Reaches lines base (m + n) c e }
-    ensures tested { (lines : List Line) (base m n : ℕ) (test : Config → Bool) (c d e : Config)
-        → Along (λ x. IsTrue (test x)) lines base m c d
-        → Along (λ x. IsTrue (test x)) lines base n d e
-        → Along (λ x. IsTrue (test x)) lines base (m + n) c e }
-    ensures first { (lines : List Line) (base n : ℕ) (test : Config → Bool) (c d e : Config) → IsTrue (test c)
-        → next_step lines base c ≡ Goes d → Along (λ x. IsTrue (test x)) lines base n d e
-        → Along (λ x. IsTrue (test x)) lines base (n + 1) c e }
-    ensures none { (lines : List Line) (base : ℕ) (test : Config → Bool) (c : Config)
-        → Along (λ x. IsTrue (test x)) lines base 0 c c }
-    ensures turns { (lines : List Line) (base size turns : ℕ) (test : Config → Bool) (at : ℕ → Config)
-        → ((k : ℕ) → k < turns → Along (λ x. IsTrue (test x)) lines base size (at k) (at (k + 1)))
-        → Along (λ x. IsTrue (test x)) lines base (turns * size) (at 0) (at turns) }
 {}
 
 /// From one configuration there is one way on, and one end.

@@ -1,13 +1,14 @@
 // The laws of runs, for every proof of what a program does: pieces of it, and what they leave. The functions
 // do nothing: their clauses are the laws.
 
+ghost use Rattle.rv_steps.specs.Accesses.{Leads};
 ghost use Rattle.rv_steps.specs.Constants.{constant_lines};
 ghost use Rattle.rv_steps.specs.Effects.{signed_value, three_value};
 ghost use Rattle.rv_steps.specs.Good.{is_fine_load, is_fine_store, is_input, values_at};
 ghost use Rattle.rv_steps.specs.Machine.{Config, Goes, IsAt, address_of, next_step, register_at, with_register, with_result, with_value};
-ghost use Rattle.rv_steps.specs.Pieces.{SparesOthers, StandsAt};
-ghost use Rattle.rv_steps.specs.Stops.{Along};
+ghost use Rattle.rv_steps.specs.Pieces.{StandsAt};
 ghost use Rattle.rv_steps.specs.Written.{IsWritten};
+ghost use Rattle.rv_line.specs.Fits.{FitLines};
 ghost use Rattle.rv_line.specs.declared.assembly.Header.{Header};
 ghost use Rattle.rv_line.specs.declared.line.Imm.{Imm};
 ghost use Rattle.rv_line.specs.declared.line.Line.{Line};
@@ -16,13 +17,23 @@ ghost use Rattle.shapes_core.specs.Shape.{total};
 ghost use Rattle.shapes_core.specs.declared.area.Area.{Area};
 ghost use Rattle.std.specs.Int.{int_wrapping_add, w64};
 ghost use Rattle.std.specs.List.{range_with_len};
-ghost use Rattle.std.specs.Prelude.{Bool, IsTrue, List, Some, false, length, map, pos, slice_get, ℕ, ◌%◌, ◌*◌, ◌+◌, ◌++◌, ◌<◌, ◌^◌, ◌≡◌, ◌≤◌, ◌⊎◌};
+ghost use Rattle.std.specs.Prelude.{IsTrue, List, [], Some, false, length, map, pos, slice_get, ℕ, ◌%◌, ◌*◌, ◌+◌, ◌++◌, ◌<◌, ◌^◌, ◌≡◌, ◌≤◌, ◌⊎◌};
 
 /// The lines of a piece are the program's where the piece stands, which is behind those in front of it.
 pub fn pieces_stand()
     ensures line { (lines : List Line) (k : ℕ) (piece : List Line) (i : ℕ) → StandsAt lines k piece
         → i < length piece → slice_get lines (k + i) ≡ slice_get piece i }
+    ensures front { (lines : List Line) (k : ℕ) (front back : List Line) → StandsAt lines k (front ++ back)
+        → StandsAt lines k front }
+    ensures back { (lines : List Line) (k : ℕ) (front back : List Line) → StandsAt lines k (front ++ back)
+        → StandsAt lines (k + length front) back }
     ensures stands { (front piece back : List Line) → StandsAt (front ++ (piece ++ back)) (length front) piece }
+{}
+
+/// Lines that fit their forms where they stand fit one after another.
+pub fn pieces_fit()
+    ensures { (count at : ℕ) (front back : List Line) → FitLines count at front
+        → FitLines count (at + length front) back → FitLines count at (front ++ back) }
 {}
 
 /// The words of an area may be loaded, and those of an output or a scan stored.
@@ -33,18 +44,6 @@ pub fn area_words_are_fine()
     ensures store { (header : Header) (areas : List Area) (base j : ℕ) (area : Area) (i : ℕ) → slice_get areas j
         ≡ Some area → i < total area.shape → base % 8 ≡ 0 → is_input area.kind ≡ false
         → IsTrue (is_fine_store header areas base (base + 8 * (header.spill + area.start + i)) 8) }
-{}
-
-/// Lines that set a register to a number do, and nothing else.
-pub fn constants_are_set()
-    ensures along { (lines : List Line) (base k to value : ℕ) (test : Config → Bool) (c : Config)
-        → StandsAt lines k (constant_lines to value) → SparesOthers lines test → 0 < to → to < length c.registers
-        → value < 2 ^ 31 → c.pc ≡ address_of k
-        → Along (λ x. IsTrue (test x)) lines base (length (constant_lines to value)) c (record {
-          registers = with_register c.registers to value;
-          pc = address_of (k + length (constant_lines to value));
-          block = c.block;
-        }) }
 {}
 
 /// A pointer walks by a stride. Behind the last word of a block it may stand where addresses end, and wraps to 0.

@@ -1,2 +1,4 @@
-pub mod SpanLemmas
+pub mod GammaLemmas
+pub mod NameLemmas
 pub mod PaddedLemmas
+pub mod SpanLemmas

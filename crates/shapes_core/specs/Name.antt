@@ -1,7 +1,6 @@
-use Rattle.std.specs.Prelude.{ℕ, ◌≤◌, Bool, false, ◌&&◌, ◌||◌, ◌==◌, nat_le, IsTrue, List, [], ◌∷◌, length}
+-- Names of arrays. This project's own.
+use Rattle.std.specs.Prelude.{ℕ, Bool, false, ◌&&◌, ◌||◌, ◌==◌, nat_le, IsTrue, List, [], ◌∷◌, length}
 use Rattle.std.specs.List.{list_all}
-use Rattle.std.proofs.Common.{arith}
-use Rattle.std.proofs.lemmas.Bool.Decides.{nat_tests}
 
 -- a letter of ASCII, A to Z or a to z
 abbrev pub is_letter : ℕ → Bool
@@ -22,8 +21,3 @@ is_name (first ∷ others) = is_letter first && list_all is_name_byte others && 
 
 abbrev pub IsName : List ℕ → Type 0
 IsName bytes = IsTrue (is_name bytes)
-
--- a name has at most 64 bytes
-pub length-IsName : (bytes : List ℕ) → IsName bytes → length bytes ≤ 64
-length-IsName [] h = omega arith
-length-IsName (first ∷ others) h = grind (arith, nat_tests)

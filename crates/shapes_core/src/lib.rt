@@ -5,8 +5,10 @@
 #![tactic(auto)]
 
 mod area;
+pub mod laws;
 mod name;
 mod shape;
+pub mod shape_examples;
 #[cfg(test)]
 mod tests;
 

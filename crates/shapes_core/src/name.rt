@@ -17,9 +17,8 @@ pub struct Name {
 
 impl Model for Name {
     ghost use Rattle.std.specs.Prelude.{◌≡◌, ◌≤◌, ◌-◌, ◌++◌, ℕ, List, length, take, drop, replicate};
-    ghost use Rattle.std.proofs.Common.{ap};
     ghost use Rattle.shapes_core.specs.Name.{IsName};
-    ghost use Rattle.shapes_core.specs.Padded.{IsPadded, padded, padded-view};
+    ghost use Rattle.shapes_core.specs.Padded.{IsPadded, padded};
 
     ghost Value = { List ℕ };
 
@@ -29,7 +28,7 @@ impl Model for Name {
 
     ghost inverse = { λ list. record { bytes = padded 64 list; len = length list } };
 
-    ghost inverse_ok = { λ n h. ap (λ (p : List ℕ × ℕ). record { bytes = p.0; len = p.1 }) (padded-view h.0) };
+    ghost inverse_ok = { λ n h i. record { bytes = h.0.filled i; len = h.0.counted i } };
 }
 
 impl Name {

@@ -20,9 +20,8 @@ pub struct Shape {
 
 impl Model for Shape {
     ghost use Rattle.std.specs.Prelude.{◌≡◌, ◌≤◌, ◌-◌, ◌++◌, ℕ, List, length, take, drop, replicate};
-    ghost use Rattle.std.proofs.Common.{ap};
     ghost use Rattle.shapes_core.specs.Shape.{IsShape};
-    ghost use Rattle.shapes_core.specs.Padded.{IsPadded, padded, padded-view};
+    ghost use Rattle.shapes_core.specs.Padded.{IsPadded, padded};
 
     ghost Value = { List ℕ };
 
@@ -32,7 +31,7 @@ impl Model for Shape {
 
     ghost inverse = { λ list. record { extents = padded 6 list; axes = length list } };
 
-    ghost inverse_ok = { λ n h. ap (λ (p : List ℕ × ℕ). record { extents = p.0; axes = p.1 }) (padded-view h.0) };
+    ghost inverse_ok = { λ n h i. record { extents = h.0.filled i; axes = h.0.counted i } };
 }
 
 impl Shape {

@@ -1,6 +1,7 @@
 pub mod CutLemmas
 pub mod DigitLemmas
 pub mod FitLemmas
+pub mod KindLemmas
 pub mod PrintLemmas
 pub mod RiseLemmas
 pub mod SeparatorLemmas

@@ -55,7 +55,7 @@ open_comment_text (first ∷ text) others = rw (line_ends text others) (no_comme
     no_comment true h = h
     no_comment false h = h
 
-separator_closed : {bytes : List ℕ} → Separator bytes → has_open_comment bytes ≡ false
+pub separator_closed : {bytes : List ℕ} → Separator bytes → has_open_comment bytes ≡ false
 separator_closed nothing = refl
 separator_closed (blank byte others b rest) = rw (blank_byte byte b).1 (separator_closed rest)
 separator_closed (line_end others rest) = separator_closed rest

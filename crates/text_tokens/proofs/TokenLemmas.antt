@@ -150,3 +150,13 @@ takes_bytes (Number n) old new h shorter = shorter
 takes_bytes OutOfRange old new h shorter = shorter
 takes_bytes (Sign s) old new h shorter = shorter
 takes_bytes Malformed old new h shorter = shorter
+
+-- a token that is not the end leaves fewer bytes
+pub shorter_by : (token : Token) (old new : Remaining) → token ≢ End → TakesBytes token old new → length new.bytes < length old.bytes
+shorter_by End old new h takes = absurd (h refl)
+shorter_by (Word n) old new h takes = takes
+shorter_by LongWord old new h takes = takes
+shorter_by (Number n) old new h takes = takes
+shorter_by OutOfRange old new h takes = takes
+shorter_by (Sign s) old new h takes = takes
+shorter_by Malformed old new h takes = takes

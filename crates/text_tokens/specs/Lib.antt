@@ -1,4 +1,5 @@
 pub mod Bytes
+pub mod Kinds
 pub mod Runs
 pub mod Separators
 pub mod Tokens

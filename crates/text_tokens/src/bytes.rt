@@ -1,12 +1,23 @@
 // The kinds of bytes, and how far they go on.
-ghost use Rattle.std.specs.Prelude.{◌≡◌, ◌+◌, ◌≤◌, length};
-ghost use Rattle.std.specs.List.{prefix_len};
+ghost use Rattle.std.specs.Prelude.{◌≡◌, ◌+◌, ◌≤◌, min, length};
+ghost use Rattle.std.specs.List.{list_all, prefix_len};
 ghost use Rattle.shapes_core.specs.Name.{is_digit, is_letter, is_name_byte};
-ghost use Rattle.text_tokens.specs.Bytes.{is_run_byte, is_within_line, token_of_byte};
+ghost use Rattle.text_tokens.specs.Bytes.{is_run_byte, token_of_byte};
+ghost use Rattle.text_tokens.specs.Kinds.{is_of};
 
 use crate::looks::Looks;
+use crate::text::Text;
 use crate::token::{Sign, Token};
 use std::sync::ledger::Ledger;
+
+/// What a part of a text is made of.
+#[derive(Clone, Copy)]
+pub(crate) enum Kind {
+    Run,
+    WithinLine,
+    NameByte,
+    Digit,
+}
 
 pub(crate) fn is_letter(byte: u8) -> bool
     ensures { result ≡ is_letter byte }
@@ -14,13 +25,13 @@ pub(crate) fn is_letter(byte: u8) -> bool
     byte.is_ascii_alphabetic()
 }
 
-pub(crate) fn is_digit(byte: u8) -> bool
+fn is_digit(byte: u8) -> bool
     ensures { result ≡ is_digit byte }
 {
     byte.is_ascii_digit()
 }
 
-pub(crate) fn is_name_byte(byte: u8) -> bool
+fn is_name_byte(byte: u8) -> bool
     ensures { result ≡ is_name_byte byte }
 {
     byte.is_ascii_alphanumeric() || byte == b'_'
@@ -33,28 +44,38 @@ pub(crate) fn is_run_byte(byte: u8) -> bool
     is_name_byte(byte) || byte == b'-'
 }
 
-/// How many bytes from the front on are of one run.
-pub(crate) fn run_len<L: Ledger>(bytes: &[u8], looks: &mut Looks<L>) -> usize
-    ensures value { result ≡ prefix_len is_run_byte bytes.now }
-    ensures within { result ≤ length bytes.now }
-    ensures cost { looks.new ≤ looks.old + result + 1 }
+fn is_of(kind: Kind, byte: u8) -> bool
+    ensures { result ≡ is_of kind byte }
 {
-    let len = bytes.iter().take_while(|byte| is_run_byte(**byte)).count();
-    looks.over(&bytes[..len]);
-    looks.once();
-    len
+    match kind {
+        Kind::Run => is_run_byte(byte),
+        Kind::WithinLine => byte != b'\n',
+        Kind::NameByte => is_name_byte(byte),
+        Kind::Digit => is_digit(byte),
+    }
 }
 
-/// How many bytes stand before the first line feed, or before the end where there is none.
-pub(crate) fn line_len<L: Ledger>(bytes: &[u8], looks: &mut Looks<L>) -> usize
-    ensures value { result ≡ prefix_len is_within_line bytes.now }
-    ensures within { result ≤ length bytes.now }
-    ensures cost { looks.new ≤ looks.old + result + 1 }
+/// How many bytes from the front on are of one kind.
+pub(crate) fn front_len<L: Ledger>(text: &Text<'_>, kind: Kind, looks: &mut Looks<L>) -> usize
+    ensures value { result ≡ prefix_len (is_of kind) text.now }
+    ensures within { result ≤ length text.now }
+    ensures cost { looks.new ≤ looks.old + min (result + 1) (length text.now) }
 {
-    let len = bytes.iter().take_while(|byte| **byte != b'\n').count();
-    looks.over(&bytes[..len]);
-    looks.once();
-    len
+    for place in 0..text.len() {
+        if !is_of(kind, text.at(place, looks)) {
+            return place;
+        }
+    }
+    text.len()
+}
+
+/// Whether all bytes are of one kind.
+#[tactic(auto, using(crate::proofs::KindLemmas::all_by_len))]
+pub(crate) fn are_all<L: Ledger>(text: &Text<'_>, kind: Kind, looks: &mut Looks<L>) -> bool
+    ensures value { result ≡ list_all (is_of kind) text.now }
+    ensures cost { looks.new ≤ looks.old + length text.now }
+{
+    front_len(text, kind, looks) == text.len()
 }
 
 /// The token that a byte is by itself.

@@ -1,14 +1,15 @@
 // Laws of the definition, and examples of it: no body runs.
-ghost use Rattle.std.specs.Prelude.{◌≡◌, ℕ, ℤ, false, List, [], ◌∷◌, ◌++◌, length, codes, replicate, pos, negsuc, FitsSigned, IsTrue};
+ghost use Rattle.std.specs.Prelude.{◌≡◌, ◌≢◌, ◌<◌, ◌≤◌, ℕ, ℤ, false, List, [], ◌∷◌, ◌++◌, length, codes, replicate, pos, negsuc, FitsSigned, IsTrue};
 ghost use Rattle.std.specs.Fmt.{signed_decimal};
 ghost use Rattle.std.specs.Int.{w64};
 ghost use Rattle.std.specs.List.{All, AllPairs, list_all};
 ghost use Rattle.shapes_core.specs.Name.{IsName};
 ghost use Rattle.text_tokens.specs.declared.token.Position.{Position};
+ghost use Rattle.text_tokens.specs.declared.token.Token.{Token as TextToken};
 ghost use Rattle.text_tokens.specs.Bytes.{is_within_line};
 ghost use Rattle.text_tokens.specs.Runs.{IsFit};
 ghost use Rattle.text_tokens.specs.Separators.{IsCut, IsGap, Separator, begins_in_run, has_open_comment};
-ghost use Rattle.text_tokens.specs.Tokens.{IsBefore, along, inner_tokens, placed, position_past, start, tokens, tokens_only};
+ghost use Rattle.text_tokens.specs.Tokens.{GivesNext, IsBefore, Remaining, along, inner_tokens, placed, position_past, start, tokens, tokens_only};
 
 use crate::token::{Sign, Token};
 
@@ -66,10 +67,36 @@ pub fn positions_rise()
         → AllPairs (λ t u. IsBefore t.1 u.1) (tokens position bytes) }
 {}
 
+/// Positions have an order: a position is not before itself, and what is before one that is before a third is
+/// before the third.
+pub fn positions_are_ordered()
+    ensures irreflexive { (a : Position) → IsBefore a a → ⊥ }
+    ensures transitive { (a b c : Position) → IsBefore a b → IsBefore b c → IsBefore a c }
+    ensures further_right { IsBefore (record { line = 1; column = 2 }) (record { line = 1; column = 3 }) }
+    ensures next_line { IsBefore (record { line = 1; column = 9 }) (record { line = 2; column = 1 }) }
+    ensures no_line_back { IsBefore (record { line = 2; column = 1 }) (record { line = 1; column = 9 }) → ⊥ }
+{}
+
 /// Each word among the tokens is a name, and each number has 64 bits.
 pub fn values_fit()
     ensures { (position : Position) (bytes : List ℕ)
         → All (λ t. IsFit t.0) (tokens position bytes) }
+{}
+
+/// A word that is no name does not fit, and a number that takes more bits does not.
+pub fn unfit_values()
+    ensures no_name { IsFit (Token.Word (codes "a-b")) → ⊥ }
+    ensures no_number { IsFit (Token.Number (pos 9223372036854775808)) → ⊥ }
+{}
+
+/// What a scanner gives is the list of the tokens, in order: each but the end takes bytes, and the end comes again.
+pub fn tokens_are_given_in_order()
+    ensures token { (old new : Remaining) (given : TextToken × Position) → GivesNext old given new → given.0 ≢ Token.End
+        → (tokens old.position old.bytes ≡ given ∷ tokens new.position new.bytes)
+        × (length new.bytes < length old.bytes) }
+    ensures end { (old new : Remaining) (given : TextToken × Position) → GivesNext old given new → given.0 ≡ Token.End
+        → (tokens old.position old.bytes ≡ given ∷ []) × (tokens new.position new.bytes ≡ given ∷ [])
+        × (length new.bytes ≤ length old.bytes) }
 {}
 
 /// The tokens of a text are those of its front and those of its back, where no comment and no run

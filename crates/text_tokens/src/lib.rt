@@ -6,10 +6,12 @@
 #![tactic(auto)]
 
 mod bytes;
+pub mod cut_examples;
 pub mod laws;
 mod looks;
 mod run;
 mod scanner;
+mod text;
 mod token;
 
 pub use looks::Looks;

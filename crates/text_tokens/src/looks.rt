@@ -1,5 +1,5 @@
 // A count of the bytes that are looked at.
-ghost use Rattle.std.specs.Prelude.{◌≡◌, ℕ, ◌+◌, ◌<◌, length};
+ghost use Rattle.std.specs.Prelude.{◌≡◌, ℕ, ◌+◌, ◌<◌};
 
 use std::marker::Model;
 use std::sync::ledger::{Blank, Book, Ledger, Share};
@@ -31,17 +31,10 @@ impl<L: Ledger> Looks<L> {
         Looks { book, share }
     }
 
-    /// Counts a look at one byte.
-    pub(crate) fn once(&mut self)
-        ensures { self.new ≡ self.old + 1 }
+    /// Counts this many looks.
+    pub(crate) fn add(&mut self, count: u64)
+        ensures { self.new ≡ self.old + count }
     {
-        self.book.add(&mut self.share, 1);
-    }
-
-    /// Counts a look at each of these bytes.
-    pub(crate) fn over(&mut self, bytes: &[u8])
-        ensures { self.new ≡ self.old + length bytes.now }
-    {
-        self.book.add(&mut self.share, bytes.len() as u64);
+        self.book.add(&mut self.share, count);
     }
 }

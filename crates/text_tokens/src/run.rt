@@ -2,55 +2,47 @@
 ghost use Rattle.std.specs.Prelude.{◌≡◌, ◌+◌, ◌-◌, ◌*◌, ◌^◌, ◌<◌, ◌≤◌, length, SomeIff, IsTrue};
 ghost use Rattle.std.specs.List.{list_all};
 ghost use Rattle.std.specs.Str.Parse.{digits_value, starts_with_minus};
-ghost use Rattle.shapes_core.specs.Name.{is_digit, is_name_byte};
+ghost use Rattle.shapes_core.specs.Name.{is_digit};
 ghost use Rattle.text_tokens.specs.Runs.{is_numeral, is_word, signed, token_of_number, token_of_run, unsigned_part};
 
-use crate::bytes::{is_digit, is_letter, is_name_byte};
+use crate::bytes::{Kind, are_all, is_letter};
 use crate::looks::Looks;
+use crate::text::Text;
 use crate::token::Token;
-use shapes_core::Name;
 use std::sync::ledger::Ledger;
 
-fn are_name_bytes(bytes: &[u8]) -> bool
-    ensures { result ≡ list_all is_name_byte bytes.now }
+#[tactic(auto, using(crate::proofs::KindLemmas::word_parts))]
+fn is_word<L: Ledger>(run: &Text<'_>, looks: &mut Looks<L>) -> bool
+    ensures value { result ≡ is_word run.now }
+    ensures cost { looks.new ≤ looks.old + length run.now }
 {
-    bytes.iter().all(|byte| is_name_byte(*byte))
-}
-
-fn are_digits(bytes: &[u8]) -> bool
-    ensures { result ≡ list_all is_digit bytes.now }
-{
-    bytes.iter().all(|byte| is_digit(*byte))
-}
-
-fn is_word(run: &[u8]) -> bool
-    ensures { result ≡ is_word run.now }
-{
-    match run.split_first() {
-        None => false,
-        Some((first, others)) => is_letter(*first) && are_name_bytes(others),
+    if run.is_empty() || !is_letter(run.at(0, looks)) {
+        return false;
     }
+    are_all(&run.behind(1), Kind::NameByte, looks)
 }
 
-fn is_numeral(bytes: &[u8]) -> bool
-    ensures { result ≡ is_numeral bytes.now }
+#[tactic(auto, using(crate::proofs::KindLemmas::numeral_digits))]
+fn is_numeral<L: Ledger>(bytes: &Text<'_>, looks: &mut Looks<L>) -> bool
+    ensures value { result ≡ is_numeral bytes.now }
+    ensures cost { looks.new ≤ looks.old + length bytes.now }
 {
-    match bytes.split_first() {
-        None => false,
-        Some((first, others)) => is_digit(*first) && are_digits(others),
-    }
+    !bytes.is_empty() && are_all(bytes, Kind::Digit, looks)
 }
 
-/// Whether a run begins with `-`, and what it is without.
-fn split_sign(run: &[u8]) -> (bool, &[u8])
-    ensures minus { result.0 ≡ starts_with_minus run.now }
-    ensures digits { result.1.now ≡ unsigned_part run.now }
-    ensures within { length result.1.now ≤ length run.now }
+fn starts_with_minus<L: Ledger>(run: &Text<'_>, looks: &mut Looks<L>) -> bool
+    ensures value { result ≡ starts_with_minus run.now }
+    ensures cost { looks.new ≤ looks.old + 1 }
 {
-    match run.split_first() {
-        Some((b'-', digits)) => (true, digits),
-        _ => (false, run),
-    }
+    !run.is_empty() && run.at(0, looks) == b'-'
+}
+
+/// What a run is without the `-` with which it begins, if it does.
+fn unsigned_part<'a>(run: &Text<'a>, minus: bool) -> Text<'a>
+    requires { minus ≡ starts_with_minus run.now }
+    ensures { result ≡ unsigned_part run.now }
+{
+    run.behind(usize::from(minus))
 }
 
 /// The number with one more digit at its end, or `None` where it takes more than 64 bits.
@@ -63,13 +55,14 @@ fn with_digit(number: u64, digit: u8) -> Option<u64>
 
 /// The number that decimal digits write, or `None` where it takes more than 64 bits.
 #[tactic(auto, using(crate::proofs::DigitLemmas::digits_step, crate::proofs::DigitLemmas::digits_so_far, crate::proofs::DigitLemmas::digit_at))]
-fn digits_value(digits: &[u8]) -> Option<u64>
+fn digits_value<L: Ledger>(digits: &Text<'_>, looks: &mut Looks<L>) -> Option<u64>
     requires { IsTrue (list_all is_digit digits.now) }
-    ensures { SomeIff result (digits_value 10 digits.now < 2 ^ 64) (digits_value 10 digits.now) }
+    ensures value { SomeIff result (digits_value 10 digits.now < 2 ^ 64) (digits_value 10 digits.now) }
+    ensures cost { looks.new ≤ looks.old + length digits.now }
 {
     let mut value: u64 = 0;
-    for digit in digits {
-        value = with_digit(value, *digit)?;
+    for place in 0..digits.len() {
+        value = with_digit(value, digits.at(place, looks))?;
     }
     Some(value)
 }
@@ -86,28 +79,22 @@ fn token_of_number(minus: bool, magnitude: u64) -> Token
 }
 
 /// The token of a run.
-pub(crate) fn token_of_run<L: Ledger>(run: &[u8], looks: &mut Looks<L>) -> Token
+pub(crate) fn token_of_run<L: Ledger>(run: &Text<'_>, looks: &mut Looks<L>) -> Token
     ensures value { result ≡ token_of_run run.now }
     ensures cost { looks.new ≤ looks.old + 5 * length run.now + 1 }
 {
-    // A name's bytes are tested, and then copied.
-    looks.over(run);
-    looks.over(run);
-    if let Some(name) = Name::new(run) {
+    if let Some(name) = run.name(looks) {
         return Token::Word(name);
     }
-    looks.over(run);
-    if is_word(run) {
+    if is_word(run, looks) {
         return Token::LongWord;
     }
-    looks.once();
-    let (minus, digits) = split_sign(run);
-    looks.over(digits);
-    if !is_numeral(digits) {
+    let minus = starts_with_minus(run, looks);
+    let digits = unsigned_part(run, minus);
+    if !is_numeral(&digits, looks) {
         return Token::Malformed;
     }
-    looks.over(digits);
-    match digits_value(digits) {
+    match digits_value(&digits, looks) {
         Some(magnitude) => token_of_number(minus, magnitude),
         None => Token::OutOfRange,
     }

@@ -4,9 +4,10 @@ ghost use Rattle.std.specs.Bool.{OnTrue, OnFalse};
 ghost use Rattle.text_tokens.specs.Bytes.{is_separator};
 ghost use Rattle.text_tokens.specs.Tokens.{GivesNext, along, remaining_tokens, start};
 
-use crate::bytes::{is_run_byte, line_len, run_len, token_of_byte};
+use crate::bytes::{Kind, front_len, is_run_byte, token_of_byte};
 use crate::looks::Looks;
 use crate::run::token_of_run;
+use crate::text::Text;
 use crate::token::{Position, Token};
 use std::marker::{Brand, Model};
 use std::sync::ledger::{Blank, Ledger};
@@ -15,7 +16,7 @@ use std::sync::ledger::{Blank, Ledger};
 /// that are left, and where the first of them stands.
 #[derive(Drop)]
 pub struct Scanner<'a> {
-    rest: &'a [u8],
+    rest: Text<'a>,
     position: Position,
 }
 
@@ -25,10 +26,10 @@ impl<'a> Model for Scanner<'a> {
 
     ghost Value = { Remaining };
 
-    ghost view = { λ s. record { position = s.position; bytes = s.rest.now } };
+    ghost view = { λ s. record { position = s.position; bytes = s.rest } };
 
-    ghost invariant = { λ s. (s.position.line + length s.rest.now < 2 ^ 32)
-        × (s.position.column + length s.rest.now < 2 ^ 32) };
+    ghost invariant = { λ s. (s.position.line + length s.rest < 2 ^ 32)
+        × (s.position.column + length s.rest < 2 ^ 32) };
 }
 
 impl<'a> Scanner<'a> {
@@ -38,7 +39,7 @@ impl<'a> Scanner<'a> {
         ensures { result ≡ record { position = start; bytes = text.now } }
     {
         Scanner {
-            rest: text,
+            rest: Text::new(text),
             position: Position { line: 1, column: 1 },
         }
     }
@@ -51,7 +52,7 @@ impl<'a> Scanner<'a> {
           bytes = drop 1 self.old.bytes;
         } }
     {
-        self.rest = &self.rest[1..];
+        self.rest = self.rest.behind(1);
         self.position = Position {
             line: self.position.line + 1,
             column: 1,
@@ -59,16 +60,16 @@ impl<'a> Scanner<'a> {
     }
 
     /// Takes this many bytes of one line.
-    fn advance(&mut self, count: usize) -> &'a [u8]
+    fn advance(&mut self, count: usize) -> Text<'a>
         requires { count ≤ length self.old.bytes }
-        ensures taken { result.now ≡ take count self.old.bytes }
+        ensures taken { result ≡ take count self.old.bytes }
         ensures left { self.new ≡ record {
           position = along self.old.position count;
           bytes = drop count self.old.bytes;
         } }
     {
-        let (taken, rest) = self.rest.split_at(count);
-        self.rest = rest;
+        let taken = self.rest.front(count);
+        self.rest = self.rest.behind(count);
         self.position.column += count as u32;
         taken
     }
@@ -85,17 +86,16 @@ impl<'a> Scanner<'a> {
             (looks.new + 3 * length self.new.bytes ≤ looks.old + 3 * length self.old.bytes) }
         ensures last_cost { OnFalse result (looks.new ≤ looks.old + min (length self.old.bytes) 1) }
     {
-        let Some(first) = self.rest.first() else {
+        if self.rest.is_empty() {
             return false;
-        };
-        looks.once();
-        match first {
+        }
+        match self.rest.at(0, looks) {
             b'\n' => self.end_line(),
             b' ' | b'\t' | b'\r' => {
                 self.advance(1);
             }
             b'#' => {
-                let comment = line_len(self.rest, looks);
+                let comment = front_len(&self.rest, Kind::WithinLine, looks);
                 self.advance(comment);
             }
             _ => return false,
@@ -113,10 +113,10 @@ impl<'a> Scanner<'a> {
         ensures shorter { length self.new.bytes < length self.old.bytes }
         ensures cost { looks.new + 9 * length self.new.bytes ≤ looks.old + 9 * length self.old.bytes }
     {
-        looks.once();
-        let first = self.rest[0];
+        let first = self.rest.at(0, looks);
         if is_run_byte(first) {
-            token_of_run(self.advance(run_len(self.rest, looks)), looks)
+            let len = front_len(&self.rest, Kind::Run, looks);
+            token_of_run(&self.advance(len), looks)
         } else {
             self.advance(1);
             token_of_byte(first)
@@ -124,7 +124,8 @@ impl<'a> Scanner<'a> {
     }
 
     /// What `next_token` gives, with a count of the bytes that it looks at: at most ten for each byte that a call
-    /// takes, so at most ten times the bytes of a text from its start to its end.
+    /// takes, so at most ten times the bytes of a text from its start to its end. Every look is counted, since the scanner has
+    /// its bytes by `Text` alone.
     #[tactic(auto, using(crate::proofs::TokenLemmas::following_more, crate::proofs::TokenLemmas::takes_bytes))]
     pub fn next_counted<L: Ledger>(&mut self, looks: &mut Looks<L>) -> (Token, Position)
         ensures token { GivesNext self.old result self.new }

@@ -2,7 +2,7 @@ use Rattle.std.proofs.Common.{◌≡◌, ℕ, suc, length, lit<, length-append, 
 use Rattle.std.specs.Fmt.{decimal}
 use Rattle.std.proofs.lemmas.Bool.Decides.{nat_tests}
 use Rattle.std.proofs.lemmas.Fmt.{length-decimal-le}
-use Rattle.shapes_core.specs.Name.{IsName, length-IsName}
+use Rattle.shapes_core.specs.Name.{IsName}
 use Rattle.vector_sum.specs.Words.{is_separator, word_at}
 use Rattle.vector_sum.specs.Source.{is_extent, is_sound, source}
 use Rattle.vector_sum.specs.declared.source.VectorSum.{VectorSum}
@@ -52,9 +52,9 @@ same_parts v left right sum extent a b c d =
     ∙ ap (λ (x : List ℕ). let w : VectorSum = record { left = v.left; right = v.right; sum = x; extent = extent } in w) c
     ∙ ap (λ (x : ℕ). let w : VectorSum = record { left = v.left; right = v.right; sum = v.sum; extent = x } in w) d
 
--- a source is short
-pub source_short : (v : VectorSum) → IsName v.left → IsName v.right → IsName v.sum → is_sound v ≡ true → length (source v) ≤ 512
-source_short v left right sum sound =
+-- a source is short, where names are
+pub source_short : ((name : List ℕ) → IsName name → length name ≤ 64) → (v : VectorSum) → IsName v.left → IsName v.right → IsName v.sum → is_sound v ≡ true → length (source v) ≤ 512
+source_short short v left right sum sound =
     let small : v.extent < 10 ^ 8 = omega (arith, extent_most v sound) in
     let digits : length (decimal v.extent) ≤ 8 = length-decimal-le 8 v.extent (lit< tt) small (extent_fits v sound) in
-    simp length-append (omega (arith, length-IsName v.left left, length-IsName v.right right, length-IsName v.sum sum))
+    simp length-append (omega (arith, short v.left left, short v.right right, short v.sum sum))

@@ -1,11 +1,12 @@
-use Rattle.std.proofs.Common.{◌≡◌, ℕ, ◌+◌, ◌*◌, ◌<◌, ◌≤◌, ◌^◌, Bool, true, false, cond, List, [], ◌∷◌, length, replicate, refl, lit<, length-append, arith}
-use Rattle.std.specs.Prelude.{nat_lt}
+use Rattle.std.proofs.Common.{◌≡◌, ℕ, ◌+◌, ◌*◌, ◌<◌, ◌≤◌, ◌^◌, ℤ, pos, true, List, [], ◌∷◌, length, replicate, refl, lit<, length-append, arith}
+use Rattle.std.proofs.lemmas.Int.{fits_signed_from_abs}
+use Rattle.std.specs.Int.{w32}
+use Rattle.std.specs.Prelude.{FitsSigned}
 use Rattle.std.specs.List.{All, AllByRecursion}
 use Rattle.std.proofs.lemmas.List.{length-replicate}
 use Rattle.std.proofs.lemmas.List.Elements.{All-from_recursion, All-replicate}
 use Rattle.rv_steps.specs.Constants.{constant_lines}
 use Rattle.rv_steps.specs.Good.{IsStart}
-use Rattle.rv_line.specs.declared.line.Line.{Line}
 use Rattle.rv_steps.specs.Machine.{Config, address_of, register_at}
 use Rattle.vector_sum.specs.Kernel.{areas_of, header_of, lines_of, walk_lines}
 use Rattle.vector_sum.specs.Source.{is_sound}
@@ -29,22 +30,18 @@ return_register : (return_to : ℕ) → register_at (registers_with return_to) 1
 unfolding register_at
 return_register return_to = refl
 
-few_either : (b : Bool) (x y : List Line) → length x ≤ 2 → length y ≤ 2 → length (cond b x y) ≤ 2
-few_either true x y p q = p
-few_either false x y p q = q
-
 -- a constant has at most two lines, and the program 15
-few_lines : (extent : ℕ) → length (lines_of extent) ≤ 15
-few_lines extent =
-    let constant = constant_lines 11 (8 * extent) in
-    let few : length constant ≤ 2 = few_either (nat_lt (8 * extent) 2048) _ _ (omega arith) (omega arith) in
+few_lines : (extent : ℕ) → length (constant_lines 11 (pos (8 * extent))) ≤ 2 → length (lines_of extent) ≤ 15
+few_lines extent few =
+    let constant = constant_lines 11 (pos (8 * extent)) in
     omega (arith, few, length-append constant (walk_lines (length constant + 4)))
 
-pub start_of : (v : VectorSum) → is_sound v ≡ true → (c : Config) × IsStart (header_of v.extent) (areas_of v) (lines_of v.extent) 4294967296 c
-start_of v sound =
+pub start_of : ((to : ℕ) (value : ℤ) → FitsSigned w32 value → length (constant_lines to value) ≤ 2) → (v : VectorSum) → is_sound v ≡ true → (c : Config) × IsStart (header_of v.extent) (areas_of v) (lines_of v.extent) 4294967296 c
+start_of few v sound =
     let most = extent_most v sound in
     let return_to = address_of (length (lines_of v.extent)) in
-    let small : return_to < 2 ^ 64 = omega (arith, few_lines v.extent) in
+    let two = few 11 (pos (8 * v.extent)) (fits_signed_from_abs w32 (pos (8 * v.extent)) (omega arith)) in
+    let small : return_to < 2 ^ 64 = omega (arith, few_lines v.extent two) in
     let block = replicate (24 * v.extent) 0 in
     let long : length block ≡ 24 * v.extent = length-replicate (24 * v.extent) 0 in
     let c : Config = record { registers = registers_with return_to; pc = 65536; block = block } in (

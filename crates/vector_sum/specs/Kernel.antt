@@ -38,8 +38,8 @@ walk_lines top = pointer_lines ++ turn_lines top ++ Jalr 0 (pos 0) 1 ∷ []
 -- the bytes of an area, and then the walk
 abbrev pub lines_of : ℕ → List Line
 lines_of extent =
-    let constant = constant_lines 11 (8 * extent) in constant ++ walk_lines (length constant + 4)
+    let constant = constant_lines 11 (pos (8 * extent)) in constant ++ walk_lines (length constant + 4)
 
 -- four lines between the constant and the loop, eight a turn, and the return
 abbrev pub header_of : ℕ → Header
-header_of extent = record { steps = 8 * extent + length (constant_lines 11 (8 * extent)) + 5; spill = 0 }
+header_of extent = record { steps = 8 * extent + length (constant_lines 11 (pos (8 * extent))) + 5; spill = 0 }

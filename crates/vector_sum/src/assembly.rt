@@ -6,7 +6,9 @@ ghost use Rattle.rv_line.specs.declared.line.Line.{Line};
 ghost use Rattle.rv_line.specs.declared.line.Load.{Load};
 ghost use Rattle.rv_line.specs.declared.line.Store.{Store};
 ghost use Rattle.rv_line.specs.declared.line.Three.{Three};
-ghost use Rattle.std.specs.List.{list_all};
+ghost use Rattle.rv_line.specs.Fits.{IsArea};
+ghost use Rattle.shapes_core.specs.Name.{IsName};
+ghost use Rattle.std.specs.List.{AllByRecursion, list_all};
 ghost use Rattle.rv_steps.specs.Good.{IsStart, Serves};
 ghost use Rattle.rv_steps.specs.Kinds.{is_base, is_free};
 ghost use Rattle.rv_steps.specs.Machine.{Config};
@@ -19,6 +21,7 @@ ghost use Rattle.vector_sum.specs.Kernel.{areas_of, header_of, lines_of, walk_li
 use crate::source::VectorSum;
 use crate::walk::program_serves;
 use rv_line::{Assembly, Branch, Header, Imm, Line, Load, Store, Three};
+use rv_steps::{constant_laws, run_laws};
 use shapes_core::{Area, AreaKind, NoMemory, Shape};
 use std::alloc::Global;
 
@@ -47,9 +50,10 @@ const WORD: i32 = 8;
 
 /// Lines after which the register holds the number, which is below 2^31: one where it is a signed immediate,
 /// and else two.
+#[tactic(auto, unfolding(rv_steps::specs::Constants::shifted_lines))]
 fn push_constant(lines: &mut Vec<Line>, to: u8, value: u32) -> Result<(), NoMemory>
     requires { value < 2 ^ 31 }
-    ensures { OnOk result (lines.new.items ≡ lines.old.items ++ constant_lines to value) }
+    ensures { OnOk result (lines.new.items ≡ lines.old.items ++ constant_lines to (pos value)) }
 {
     if value < 2048 {
         lines.push(addi(to, ZERO, value as i32))?;
@@ -153,6 +157,7 @@ fn lines_of(alloc: Global, extent: u64) -> Result<Vec<Line>, NoMemory>
     requires { extent ≤ 16777216 }
     ensures { IfOk result (λ lines. lines.items ≡ lines_of extent) }
 {
+    constant_laws::constants_are_short();
     let mut lines = Vec::new(alloc);
     push_constant(&mut lines, END, 8 * extent as u32)?;
     let top = lines.len() as u32 + 4;
@@ -160,10 +165,21 @@ fn lines_of(alloc: Global, extent: u64) -> Result<Vec<Line>, NoMemory>
     Ok(lines)
 }
 
+/// The three names are names. The function does nothing: its clauses are what `Name` keeps.
+fn names_hold(v: &VectorSum)
+    ensures left { IsName v.now.left }
+    ensures right { IsName v.now.right }
+    ensures sum { IsName v.now.sum }
+{
+    let (_left, _right, _sum) = (v.left.bytes(), v.right.bytes(), v.sum.bytes());
+}
+
 fn areas_of(alloc: Global, v: &VectorSum) -> Result<Vec<Area>, NoMemory>
     requires { v.now.extent ≤ 16777216 }
-    ensures { IfOk result (λ areas. areas.items ≡ areas_of v.now) }
+    ensures value { IfOk result (λ areas. areas.items ≡ areas_of v.now) }
+    ensures each { IfOk result (λ areas. AllByRecursion IsArea areas.items) }
 {
+    names_hold(v);
     let shape = Shape::new(&[v.extent]).unwrap();
     let areas = vec![in alloc;
         Area {
@@ -187,6 +203,7 @@ fn areas_of(alloc: Global, v: &VectorSum) -> Result<Vec<Area>, NoMemory>
 
 /// The program: what it does from any start, in how many steps, and how large it is. Its header's steps are those
 /// that every run makes.
+#[tactic(auto, unfolding(rv_steps::specs::Constants::shifted_lines))]
 pub fn kernel(alloc: Global, v: &VectorSum) -> Result<Assembly, NoMemory>
     requires { IsTrue (is_sound v.now) }
     ensures header { IfOk result (λ program. program.header ≡ header_of v.now.extent) }
@@ -202,6 +219,9 @@ pub fn kernel(alloc: Global, v: &VectorSum) -> Result<Assembly, NoMemory>
     ensures no_multiplication { IfOk result (λ program. IsTrue (list_all is_base program.lines)) }
     ensures free_registers { IfOk result (λ program. IsTrue (list_all is_free program.lines)) }
 {
+    constant_laws::constants_are_short();
+    constant_laws::constants_fit();
+    run_laws::pieces_fit();
     program_serves();
     let areas = areas_of(alloc, v)?;
     let lines = lines_of(alloc, v.extent)?;

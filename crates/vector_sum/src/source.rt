@@ -8,6 +8,7 @@ ghost use Rattle.vector_sum.specs.declared.source.VectorSum.{VectorSum};
 use crate::joined::joined;
 use crate::words::{is_reserved, is_same, word_at};
 use itoa::Buffer;
+use shapes_core::laws::names_are_short;
 use shapes_core::{Name, NoMemory};
 use std::alloc::Global;
 
@@ -124,7 +125,9 @@ pub fn recognise(alloc: Global, text: &[u8]) -> Result<Option<VectorSum>, NoMemo
     Ok(Some(v))
 }
 
-/// A source of this form has at most 512 bytes. The function does nothing: its clause is the law.
+/// A source of this form has at most 512 bytes. Its clause is the law.
 pub fn sources_are_short()
     ensures { (text : List ℕ) (v : VectorSum) → Reads text v → length text ≤ 512 }
-{}
+{
+    names_are_short();
+}

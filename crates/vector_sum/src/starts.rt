@@ -6,9 +6,13 @@ ghost use Rattle.vector_sum.specs.Kernel.{areas_of, header_of, lines_of};
 ghost use Rattle.vector_sum.specs.Source.{is_sound};
 ghost use Rattle.vector_sum.specs.declared.source.VectorSum.{VectorSum};
 
-/// Every program can be started, with its block at address 4294967296. The function does nothing: its clause
-/// is the law.
+use rv_steps::constant_laws;
+
+/// Every program can be started, with its block at address 4294967296. The function does nothing but call
+/// for a law of constants: its clause is the law.
 pub fn starts_exist()
     ensures { (v : VectorSum) → IsTrue (is_sound v)
         → (c : Config) × IsStart (header_of v.extent) (areas_of v) (lines_of v.extent) 4294967296 c }
-{}
+{
+    constant_laws::constants_are_short();
+}

@@ -10,8 +10,9 @@ loop-shelf-preserved g c =
       within = taken.within;
       front = λ some. front_next _ _ _ _ _ _ before.unchanged before.front taken.next;
       given = omega (arith, taken.given, taken.grown, before.given);
+      bounded = λ some. omega (arith, taken.most_given);
       more_given = omega (arith, taken.more_given, before.more_given);
-      later = omega (arith, taken.later, before.later);
+      faults = taken.faults (λ wrong. cc) ∙ before.faults;
       failed_name = taken.failed_name (λ wrong. cc) ∙ before.failed_name;
       unchanged = taken.unchanged ∙ before.unchanged;
     }

@@ -1,9 +1,7 @@
 use Rattle.std.proofs.Common.{◌≡◌, refl}
-use Rattle.std.specs.List.{AllByRecursion}
 use Rattle.rv_line.specs.Emitted.{emitted}
-use Rattle.rv_line.specs.Rows.{HasRow}
 use Rattle.rv_line.proofs.LabelLemmas.{targets_within}
-use Rattle.rv_line.proofs.SpellLemmas.{emitted_spells}
+use Rattle.rv_line.proofs.SpellLemmas.{emitted_spells, spelled_as_placed}
 use Rattle.rv_line.proofs.emitted.text.Goals as goal
 
 pub labels-requires-clause-targets : goal.labels-requires-clause-targets
@@ -16,7 +14,7 @@ returns c =
     rw (
       c.in_ok-push_lines.ensures,
       c.in_ok-push_text.ensures,
-      c.in_ok-push_areas.ensures.text,
+      c.in_ok-push_areas.ensures,
       c.in_ok-push_header.ensures,
       c.in_ok-out.ensures.items,
       c.lines-lines.ensures.value,
@@ -24,7 +22,9 @@ returns c =
       c.header-header.ensures,
     ) refl
     in
-    let rows : AllByRecursion (HasRow parts.header.spill) parts.areas =
-    rw (c.areas.ensures.value, c.header-header.ensures) at c.in_ok-push_areas.ensures.rows
-    in
-    record { exact = exact; spells = rw exact (emitted_spells parts c.lines-lines.ensures.fits rows) }
+    let spells = emitted_spells parts c.lines-lines.ensures.fits in
+    record {
+      exact = exact;
+      spells = rw exact spells;
+      placed = λ is. rw exact (spelled_as_placed (emitted parts) parts is spells);
+    }

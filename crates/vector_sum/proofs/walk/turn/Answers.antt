@@ -1,8 +1,8 @@
-use Rattle.std.proofs.Common.{◌≡◌, ◌≢◌, ℕ, ◌+◌, ◌*◌, ◌%◌, ◌^◌, ◌<◌, ◌≤◌, true, false, ◌∷◌, [], inl, inr, List, length, pos, refl, ◌∙◌, arith, Some}
+use Rattle.std.proofs.Common.{◌≡◌, ℕ, ◌+◌, ◌*◌, ◌%◌, ◌^◌, ◌<◌, ◌≤◌, true, false, inl, inr, List, length, pos, refl, ◌∙◌, arith}
 use Rattle.std.proofs.lemmas.Bool.Decides.{nat_tests}
 use Rattle.std.proofs.lemmas.Bool.{cases_lt}
 use Rattle.std.proofs.Math.Nat.{mod-lt}
-use Rattle.std.specs.Prelude.{IsTrue, if◌then◌else◌, nat_lt, slice_get}
+use Rattle.std.specs.Prelude.{if◌then◌else◌, nat_lt}
 use Rattle.std.specs.Int.{w64}
 use Rattle.rv_line.specs.declared.line.Line.{Line}
 use Rattle.rv_line.specs.declared.line.Three.{Three}
@@ -11,37 +11,17 @@ use Rattle.rv_line.specs.declared.line.Load.{Load}
 use Rattle.rv_line.specs.declared.line.Store.{Store}
 use Rattle.rv_line.specs.declared.line.Branch.{Branch}
 use Rattle.rv_steps.specs.Effects.{is_taken}
-use Rattle.rv_steps.specs.Good.{is_input, is_kept}
-use Rattle.rv_steps.specs.Machine.{Config, Goes, IsAt, NoAccess, Loads, Stores, address, next_step, access_at, with_result, register_at, value_at, with_value, address_of}
+use Rattle.rv_steps.specs.Machine.{Config, Goes, IsAt, address, next_step, with_result, register_at, value_at, with_value, address_of}
 use Rattle.rv_steps.specs.Pieces.{StandsAt}
-use Rattle.rv_steps.specs.Stops.{Along}
-use Rattle.shapes_core.specs.Shape.{total}
-use Rattle.shapes_core.specs.declared.area.Area.{Area}
-use Rattle.shapes_core.specs.declared.area.AreaKind.TheVariants.{In, Out}
-use Rattle.vector_sum.specs.Kernel.{areas_of, header_of, turn_lines}
-use Rattle.vector_sum.specs.Walk.{IsFineFor, IsWalking, is_fine_for, sum_at}
+use Rattle.rv_steps.specs.Accesses.{Leads}
+use Rattle.vector_sum.specs.Kernel.{turn_lines}
+use Rattle.vector_sum.specs.Walk.{IsWalking, sum_at, turn_accesses}
 use Rattle.vector_sum.specs.declared.source.VectorSum.{VectorSum}
 use Rattle.vector_sum.proofs.walk.turn.Goals as goal
-use Rattle.vector_sum.proofs.walk.turn.Goals.{After-area_words_are_fine}
-
--- the registers that are kept are none that the turn writes
-apart : (r : ℕ) → IsTrue (is_kept r) → (r ≢ 5) × (r ≢ 6) × (r ≢ 7) × (r ≢ 12) × (r ≢ 13)
-apart r h = (grind (arith, nat_tests), grind (arith, nat_tests), grind (arith, nat_tests), grind (arith, nat_tests), grind (arith, nat_tests))
-
-module _ (s : After-area_words_are_fine) (v : VectorSum) (lines : List Line) (base : ℕ) (eights : base % 8 ≡ 0) where
-  quiet : (d : Config) → access_at lines d ≡ NoAccess → IsFineFor v lines base d
-  quiet d e = rw e refl
-
-  fine_load : (j : ℕ) (area : Area) (i : ℕ) (d : Config) (at : ℕ) → slice_get (areas_of v) j ≡ Some area → i < total area.shape → access_at lines d ≡ Loads at 8 → at ≡ base + 8 * (0 + area.start + i) → IsFineFor v lines base d
-  fine_load j area i d at there below e same =
-      rw (e, same) (s.area_words_are_fine.ensures.load (header_of v.extent) (areas_of v) base j area i there below eights)
-
-  fine_store : (j : ℕ) (area : Area) (i : ℕ) (d : Config) (at : ℕ) → slice_get (areas_of v) j ≡ Some area → i < total area.shape → is_input area.kind ≡ false → access_at lines d ≡ Stores at 8 → at ≡ base + 8 * (0 + area.start + i) → IsFineFor v lines base d
-  fine_store j area i d at there below out e same =
-      rw (e, same) (s.area_words_are_fine.ensures.store (header_of v.extent) (areas_of v) base j area i there below eights out)
+use Rattle.vector_sum.proofs.walk.turn.Goals.{After-words_are_written}
 
 -- the loop goes on while the pointer is before the end
-branch : (s : After-area_words_are_fine) (v : VectorSum) (lines : List Line) (top base k : ℕ) (c : Config) → IsAt lines (top + 7) (Line.Branch Branch.Bne 5 11 top) c → register_at c.registers 5 ≡ base + 8 * (k + 1) → register_at c.registers 11 ≡ base + 8 * v.extent → k < v.extent → next_step lines base c ≡ Goes (record c { pc = address_of (if nat_lt (k + 1) v.extent then top else top + 8) })
+branch : (s : After-words_are_written) (v : VectorSum) (lines : List Line) (top base k : ℕ) (c : Config) → IsAt lines (top + 7) (Line.Branch Branch.Bne 5 11 top) c → register_at c.registers 5 ≡ base + 8 * (k + 1) → register_at c.registers 11 ≡ base + 8 * v.extent → k < v.extent → next_step lines base c ≡ Goes (record c { pc = address_of (if nat_lt (k + 1) v.extent then top else top + 8) })
 branch s v lines top base k c at left end below =
     elim (cases_lt (k + 1) v.extent) [
       | inl less ↦
@@ -55,16 +35,15 @@ branch s v lines top base k c at left end below =
           rw e (rw on at (s.lines_take_steps.ensures.not_taken lines base (top + 7) c Branch.Bne 5 11 top at t))
     ]
 
-module _ (s : After-area_words_are_fine) (v : VectorSum) (lines : List Line) (top base k : ℕ) (first c : Config) (stands : StandsAt lines top (turn_lines top)) (eights : base % 8 ≡ 0) (room : base + 8 * (3 * v.extent) ≤ 2 ^ 64) (below : k < v.extent) (now : IsWalking v.extent base top k first c) where
-  one_turn : (d : Config) × Along (IsFineFor v lines base) lines base 8 c d × IsWalking v.extent base top (k + 1) first d
+module _ (s : After-words_are_written) (v : VectorSum) (lines : List Line) (top base k : ℕ) (first c : Config) (stands : StandsAt lines top (turn_lines top)) (eights : base % 8 ≡ 0) (room : base + 8 * (3 * v.extent) ≤ 2 ^ 64) (below : k < v.extent) (now : IsWalking v.extent base top k first c) where
+  one_turn : (d : Config) × Leads lines base 8 c d (turn_accesses v.extent base k) × IsWalking v.extent base top (k + 1) first d
   one_turn =
       let n = v.extent in
       let less : nat_lt k n ≡ true = grind (arith, nat_tests) in
       let any = s.registers_are_kept.ensures.any in
       let len = s.registers_are_kept.ensures.len in
       let goes = s.lines_take_steps.ensures.line in
-      let touches = s.lines_take_steps.ensures.access in
-      let first_of_all = s.chains_compose.ensures.first in
+      let line = s.runs_lead.ensures.line in
       let there = s.pieces_stand.ensures.line lines top (turn_lines top) in
       let regs = now.count in
       let pc0 : c.pc ≡ address_of top = now.at ∙ rw less refl in
@@ -81,18 +60,15 @@ module _ (s : After-area_words_are_fine) (v : VectorSum) (lines : List Line) (to
       let a0 : address c.registers 5 (pos 0) ≡ base + 8 * k = omega arith in
       let c1 = with_result c 12 x in
       let s0 : next_step lines base c ≡ Goes c1 = rw (now.stored.others k (inl (omega arith))) at (s.lines_take_steps.ensures.load lines base (top + 0) c Load.Ld 12 (pos 0) 5 (8 * k) at0 a0 (record { aligned = omega arith; above = omega arith; below = omega arith })) in
-      let f0 = fine_load s v lines base eights 0 (record { kind = In v.left; shape = n ∷ []; start = 0 }) k c _ refl (omega arith) (touches lines base (top + 0) c _ at0) (omega arith) in
       let r6-1 : register_at c1.registers 6 ≡ base + 8 * (n + k) = simp (any, regs) r6 in
       let at1 : IsAt lines (top + 1) (Line.Load Load.Ld 13 (pos 0) 6) c1 = record { at = omega arith; there = there 1 stands (omega arith) } in
       let a1 : address c1.registers 6 (pos 0) ≡ base + 8 * (n + k) = omega arith in
       let c2 = with_result c1 13 y in
       let s1 : next_step lines base c1 ≡ Goes c2 = rw (now.stored.others (n + k) (inl (omega arith))) at (s.lines_take_steps.ensures.load lines base (top + 1) c1 Load.Ld 13 (pos 0) 6 (8 * (n + k)) at1 a1 (record { aligned = omega arith; above = omega arith; below = omega arith })) in
-      let f1 = fine_load s v lines base eights 1 (record { kind = In v.right; shape = n ∷ []; start = n }) k c1 _ refl (omega arith) (touches lines base (top + 1) c1 _ at1) (omega arith) in
       -- the sum
       let at2 : IsAt lines (top + 2) (Line.Three Three.Add 12 12 13) c2 = record { at = omega arith; there = there 2 stands (omega arith) } in
       let c3 = with_result c2 12 sum in
       let s2 : next_step lines base c2 ≡ Goes c3 = simp (any, len, regs) at (goes lines base (top + 2) c2 _ at2) in
-      let f2 = quiet s v lines base eights c2 (touches lines base (top + 2) c2 _ at2) in
       -- the store
       let r7-3 : register_at c3.registers 7 ≡ base + 8 * (2 * n + k) = simp (any, len, regs) r7 in
       let r12-3 : register_at c3.registers 12 ≡ sum = simp (any, len, regs) in
@@ -100,31 +76,27 @@ module _ (s : After-area_words_are_fine) (v : VectorSum) (lines : List Line) (to
       let a3 : address c3.registers 7 (pos 0) ≡ base + 8 * (2 * n + k) = omega arith in
       let c4 : Config = record c3 { pc = c3.pc + 4; block = with_value w64 c.block (8 * (2 * n + k)) sum } in
       let s3 : next_step lines base c3 ≡ Goes c4 = rw r12-3 at (s.lines_take_steps.ensures.store lines base (top + 3) c3 Store.Sd 12 (pos 0) 7 (8 * (2 * n + k)) at3 a3 (record { aligned = omega arith; above = omega arith; below = omega arith })) in
-      let f3 = fine_store s v lines base eights 2 (record { kind = Out v.sum; shape = n ∷ []; start = 2 * n }) k c3 _ refl (omega arith) refl (touches lines base (top + 3) c3 _ at3) (omega arith) in
       -- the pointers
       let at4 : IsAt lines (top + 4) (Line.Imm Imm.Addi 5 5 (pos 8)) c4 = record { at = omega arith; there = there 4 stands (omega arith) } in
       let c5 = with_result c4 5 (base + 8 * (k + 1)) in
       let s4 = s.pointers_walk.ensures.within lines base (top + 4) c4 5 8 (base + 8 * k) (base + 8 * (k + 1)) at4 (simp (any, len, regs) r5) (omega arith) (omega arith) in
-      let f4 = quiet s v lines base eights c4 (touches lines base (top + 4) c4 _ at4) in
       let at5 : IsAt lines (top + 5) (Line.Imm Imm.Addi 6 6 (pos 8)) c5 = record { at = omega arith; there = there 5 stands (omega arith) } in
       let c6 = with_result c5 6 (base + 8 * (n + (k + 1))) in
       let s5 = s.pointers_walk.ensures.within lines base (top + 5) c5 6 8 (base + 8 * (n + k)) (base + 8 * (n + (k + 1))) at5 (simp (any, len, regs) r6) (omega arith) (omega arith) in
-      let f5 = quiet s v lines base eights c5 (touches lines base (top + 5) c5 _ at5) in
       let at6 : IsAt lines (top + 6) (Line.Imm Imm.Addi 7 7 (pos 8)) c6 = record { at = omega arith; there = there 6 stands (omega arith) } in
       let c7 = with_result c6 7 ((base + 8 * (2 * n + (k + 1))) % 2 ^ 64) in
       let s6 = s.pointers_walk.ensures.wrapping lines base (top + 6) c6 7 8 (base + 8 * (2 * n + k)) (base + 8 * (2 * n + (k + 1))) at6 (simp (any, len, regs) now.sum) (omega arith) in
-      let f6 = quiet s v lines base eights c6 (touches lines base (top + 6) c6 _ at6) in
       -- back to the first line, or on
       let d : Config = record c7 { pc = address_of (if nat_lt (k + 1) n then top else top + 8) } in
       let r5-7 : register_at c7.registers 5 ≡ base + 8 * (k + 1) = simp (any, len, regs) in
       let r11-7 : register_at c7.registers 11 ≡ base + 8 * n = simp (any, len, regs) r11 in
       let at7 : IsAt lines (top + 7) (Line.Branch Branch.Bne 5 11 top) c7 = record { at = omega arith; there = there 7 stands (omega arith) } in
       let s7 : next_step lines base c7 ≡ Goes d = branch s v lines top base k c7 at7 r5-7 r11-7 below in
-      let f7 = quiet s v lines base eights c7 (touches lines base (top + 7) c7 _ at7) in
-      let chain = first_of_all lines base 7 (is_fine_for v lines base) c c1 d f0 s0 (first_of_all lines base 6 (is_fine_for v lines base) c1 c2 d f1 s1 (first_of_all lines base 5 (is_fine_for v lines base) c2 c3 d f2 s2 (first_of_all lines base 4 (is_fine_for v lines base) c3 c4 d f3 s3 (first_of_all lines base 3 (is_fine_for v lines base) c4 c5 d f4 s4 (first_of_all lines base 2 (is_fine_for v lines base) c5 c6 d f5 s5 (first_of_all lines base 1 (is_fine_for v lines base) c6 c7 d f6 s6 (first_of_all lines base 0 (is_fine_for v lines base) c7 d d f7 s7 (s.chains_compose.ensures.none lines base (is_fine_for v lines base) d)))))))) in
+      let chain = line lines base (top + 0) 7 _ c c1 d _ at0 s0 (line lines base (top + 1) 6 _ c1 c2 d _ at1 s1 (line lines base (top + 2) 5 _ c2 c3 d _ at2 s2 (line lines base (top + 3) 4 _ c3 c4 d _ at3 s3 (line lines base (top + 4) 3 _ c4 c5 d _ at4 s4 (line lines base (top + 5) 2 _ c5 c6 d _ at5 s5 (line lines base (top + 6) 1 _ c6 c7 d _ at6 s6 (line lines base (top + 7) 0 _ c7 d d _ at7 s7 (s.runs_lead.ensures.none lines base d)))))))) in
+      let accesses : Leads lines base 8 c d (turn_accesses n base k) = rw (a0, a1, a3) at chain in
       let small : sum < 2 ^ 64 = mod-lt (x + y) (omega arith) in (
         d,
-        chain,
+        accesses,
         record {
           at = refl;
           count = simp (len, regs);
@@ -132,10 +104,6 @@ module _ (s : After-area_words_are_fine) (v : VectorSum) (lines : List Line) (to
           right = simp (any, len, regs);
           sum = simp (any, len, regs);
           end = r11-7;
-          kept = λ r h.
-              let a = apart r h in
-              let other = s.registers_are_kept.ensures.other in
-              other c6.registers 7 _ r a.2 ∙ other c5.registers 6 _ r a.1 ∙ other c4.registers 5 _ r a.0 ∙ other c2.registers 12 _ r a.3 ∙ other c1.registers 13 _ r a.4 ∙ other c.registers 12 _ r a.3 ∙ now.kept r h;
           sized = now.sized;
           stored = s.words_are_written.ensures.more (2 * n) k (sum_at n first.block) first.block c.block now.stored (omega (arith, now.sized)) small;
         },

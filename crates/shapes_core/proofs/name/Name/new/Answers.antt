@@ -1,5 +1,6 @@
 use Rattle.std.proofs.Common.{subst, sym, arith}
-use Rattle.shapes_core.specs.Name.{IsName, length-IsName}
+use Rattle.shapes_core.specs.Name.{IsName}
+use Rattle.shapes_core.proofs.NameLemmas.{length-IsName}
 use Rattle.shapes_core.proofs.PaddedLemmas.{filled, filled_front}
 use Rattle.shapes_core.proofs.name.Name.new.Goals as goal
 

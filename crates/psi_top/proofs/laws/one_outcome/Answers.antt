@@ -1,0 +1,5 @@
+use Rattle.psi_top.proofs.OutcomeLemmas.{one_outcome}
+use Rattle.psi_top.proofs.laws.one_outcome.Goals as goal
+
+pub returns : goal.returns
+returns c = one_outcome
