@@ -5,18 +5,20 @@ use Rattle.psi_edges.specs.Causes.{Rose}
 use Rattle.psi_edges.specs.Files.{Files, OnFile}
 use Rattle.psi_edges.specs.Held.{Appends}
 use Rattle.psi_top.specs.Answer.{IsAnswer, IsPublished, IsSaid, outcome_of}
-use Rattle.psi_top.specs.Builds.{Builds}
-use Rattle.psi_top.specs.Command.{IsCompile, IsMisuse, cannot_write_line}
-use Rattle.psi_top.specs.Outcome.{AreFiles, IsDue, IsOutcome, IsTextOf, Outcome, line_of, status_of}
+use Rattle.psi_top.specs.Command.{IsCommand, IsMisuse}
+use Rattle.psi_top.specs.Line.{cannot_write_line}
+use Rattle.psi_top.specs.Made.{IsMade}
+use Rattle.psi_top.specs.Outcome.{AreFiles, IsDue, IsOutcome, IsSourceOutcome, IsTextOf, Outcome, line_of, status_of}
 use Rattle.psi_top.specs.Outcome.IsDue.{over_files, cannot_read, no_memory}
-use Rattle.psi_top.specs.Outcome.IsOutcome.{usage, missing, not_built, compiled}
-use Rattle.psi_top.specs.Outcome.Outcome.{Refuses, Compiles}
+use Rattle.psi_top.specs.Outcome.IsOutcome.{usage, missing, found}
+use Rattle.psi_top.specs.Outcome.IsSourceOutcome.{too_long, refused, not_built, made}
+use Rattle.psi_top.specs.Outcome.Outcome.{Refuses, Makes}
 use Rattle.psi_top.specs.Put.{IsCut, IsLinePut, IsPut, IsWhole}
 use Rattle.psi_top.specs.Put.IsPut.{whole, out_failed, err_failed}
 use Rattle.psi_top.specs.Views.{ShelfView, SinkView}
-use Rattle.psi_top.proofs.OutcomeLemmas.{one_outcome}
+use Rattle.psi_top.specs.declared.command.Task.{Task}
 use Rattle.psi_top.specs.declared.refusal.Refusal.{Refusal}
-use Rattle.psi_top.specs.declared.refusal.Refusal.TheVariants.{Usage, CannotRead, NotBuilt, Memory}
+use Rattle.psi_top.specs.declared.refusal.Refusal.TheVariants.{Usage, CannotRead, TooLong, Text, NotBuilt, Memory}
 
 -- no bytes more are the same bytes
 append_nothing : (before now : Option (List ℕ)) → Appends before now [] → now ≡ before
@@ -52,7 +54,9 @@ line_put outcome out err_old err_new status is_text (inr line) =
 refusal_text : (refusal : Refusal) → IsTextOf (outcome_of refusal) []
 refusal_text Usage = refl
 refusal_text (CannotRead name) = refl
-refusal_text (NotBuilt name) = refl
+refusal_text (TooLong name) = refl
+refusal_text (Text name at cause) = refl
+refusal_text (NotBuilt name at) = refl
 refusal_text Memory = refl
 
 said_text : (refusal : Refusal) (said : Outcome) → IsSaid (outcome_of refusal) said → IsTextOf said []
@@ -67,44 +71,60 @@ refusal_put refusal said out err_old err_new status is put = line_put said out e
 pub not_usage : (refusal : Refusal) → refusal ≢ Usage → status_of (outcome_of refusal) ≢ 1
 not_usage Usage other = absurd (other refl)
 not_usage (CannotRead name) other = λ e. omega arith
-not_usage (NotBuilt name) other = λ e. omega arith
+not_usage (TooLong name) other = λ e. omega arith
+not_usage (Text name at cause) other = λ e. omega arith
+not_usage (NotBuilt name at) other = λ e. omega arith
 not_usage Memory other = λ e. omega arith
 
--- which statuses an outcome has
-outcome_status : (words : List (List ℕ)) (files : Files) (outcome : Outcome) (read : ℕ) → IsOutcome words files outcome read → Contains (0 ∷ 1 ∷ 2 ∷ 3 ∷ 10 ∷ 11 ∷ []) (status_of outcome)
+-- the statuses of calls
+abbrev statuses : List ℕ
+statuses = 0 ∷ 1 ∷ 2 ∷ 3 ∷ 4 ∷ 6 ∷ 10 ∷ 11 ∷ []
+
+source_status : (task : Task) (name source : List ℕ) (outcome : Outcome) (read : ℕ) → IsSourceOutcome task name source outcome read → Contains statuses (status_of outcome)
+source_status task name source outcome read (too_long a) = (5, omega arith, refl)
+source_status task name source outcome read (refused a r) = (4, omega arith, refl)
+source_status task name source outcome read (not_built a t r) = (7, omega arith, refl)
+source_status task name source outcome read (made a r can) = (0, omega arith, refl)
+
+outcome_status : (words : List (List ℕ)) (files : Files) (outcome : Outcome) (read : ℕ) → IsOutcome words files outcome read → Contains statuses (status_of outcome)
 outcome_status words files outcome read (usage m) = (1, omega arith, refl)
 outcome_status words files outcome read (missing a at) = (2, omega arith, refl)
-outcome_status words files outcome read (not_built a at u) = (5, omega arith, refl)
-outcome_status words files outcome read (compiled a at r) = (0, omega arith, refl)
+outcome_status words files outcome read (found a at r) = source_status _ _ _ outcome read r
 
-due_status : (words : List (List ℕ)) (old new : ShelfView) (outcome : Outcome) → IsDue words old new outcome → Contains (0 ∷ 1 ∷ 2 ∷ 3 ∷ 10 ∷ 11 ∷ []) (status_of outcome)
+due_status : (words : List (List ℕ)) (old new : ShelfView) (outcome : Outcome) → IsDue words old new outcome → Contains statuses (status_of outcome)
 due_status words old new outcome (over_files told o given faults) = outcome_status words _ outcome _ o
 due_status words old new outcome (cannot_read a rose named) = (2, omega arith, refl)
-due_status words old new outcome (no_memory a) = (4, omega arith, refl)
+due_status words old new outcome (no_memory a) = (6, omega arith, refl)
 
 -- of words that are no command the outcome is one
 misuse_outcome : (words : List (List ℕ)) (files : Files) (outcome : Outcome) (read : ℕ) → IsMisuse words → IsOutcome words files outcome read → (status_of outcome ≡ 1) × (line_of outcome ≢ [])
 misuse_outcome words files outcome read m (usage n) = (refl, λ e. cc)
-misuse_outcome words files outcome read m (missing a at) = absurd (m _ a)
-misuse_outcome words files outcome read m (not_built a at u) = absurd (m _ a)
-misuse_outcome words files outcome read m (compiled a at r) = absurd (m _ a)
+misuse_outcome words files outcome read m (missing a at) = absurd (m _ _ a)
+misuse_outcome words files outcome read m (found a at r) = absurd (m _ _ a)
 
 misuse_due : (words : List (List ℕ)) (old new : ShelfView) (outcome : Outcome) → IsMisuse words → IsDue words old new outcome → (status_of outcome ≡ 1) × (line_of outcome ≢ [])
 misuse_due words old new outcome m (over_files told o given faults) = misuse_outcome words _ outcome _ m o
-misuse_due words old new outcome m (cannot_read a rose named) = absurd (m _ a)
-misuse_due words old new outcome m (no_memory a) = absurd (m _ a)
+misuse_due words old new outcome m (cannot_read a rose named) = absurd (m _ _ a)
+misuse_due words old new outcome m (no_memory a) = absurd (m _ _ a)
+
+-- a text of status 0 is what the task makes of the source
+source_text : (task : Task) (name source : List ℕ) (outcome : Outcome) (read : ℕ) (text : List ℕ) → IsSourceOutcome task name source outcome read → status_of outcome ≡ 0 → IsTextOf outcome text → IsMade task source text × (line_of outcome ≡ [])
+source_text task name source outcome read text (too_long a) e t = absurd (omega arith)
+source_text task name source outcome read text (refused a r) e t = absurd (omega arith)
+source_text task name source outcome read text (not_built a is r) e t = absurd (omega arith)
+source_text task name source outcome read text (made {tree = tree} a r can) e t = (record { tree = tree; read = r; can = can; made = t }, refl)
 
 -- an outcome of status 0 is a text for the file that the words name
-text_outcome : (words : List (List ℕ)) (told : Option Files) (files : Files) (outcome : Outcome) (read : ℕ) (text : List ℕ) → AreFiles told files → IsOutcome words files outcome read → status_of outcome ≡ 0 → IsTextOf outcome text → (name : List ℕ) × IsCompile words name × OnFile told name (λ source. Builds source text) × (line_of outcome ≡ [])
+text_outcome : (words : List (List ℕ)) (told : Option Files) (files : Files) (outcome : Outcome) (read : ℕ) (text : List ℕ) → AreFiles told files → IsOutcome words files outcome read → status_of outcome ≡ 0 → IsTextOf outcome text → (task : Task) × (name : List ℕ) × IsCommand words task name × OnFile told name (λ source. IsMade task source text) × (line_of outcome ≡ [])
 text_outcome words told files outcome read text are (usage n) e t = absurd (omega arith)
 text_outcome words told files outcome read text are (missing a at) e t = absurd (omega arith)
-text_outcome words told files outcome read text are (not_built a at u) e t = absurd (omega arith)
-text_outcome words None files outcome read text are (compiled {name = name} a at r) e t = (name, a, tt, refl)
-text_outcome words (Some told) files outcome read text are (compiled {name = name} {sum = sum} a at r) e t =
+text_outcome words None files outcome read text are (found {task = task} {name = name} a at r) e t = (task, name, a, tt, (source_text _ _ _ outcome read text r e t).1)
+text_outcome words (Some told) files outcome read text are (found {task = task} {name = name} a at r) e t =
     let there : get told name ≡ Some _ = ap (λ f. get f name) are ∙ at in
-    (name, a, subst (λ found. IsSomeAnd found (λ source. Builds source text)) (sym there) (record { sum = sum; read = r; compiled = t }), refl)
+    let is = source_text _ _ _ outcome read text r e t in
+    (task, name, a, subst (λ file. IsSomeAnd file (λ source. IsMade task source text)) (sym there) is.0, is.1)
 
-text_due : (words : List (List ℕ)) (old new : ShelfView) (outcome : Outcome) (text : List ℕ) → IsDue words old new outcome → status_of outcome ≡ 0 → IsTextOf outcome text → (name : List ℕ) × IsCompile words name × OnFile old.files name (λ source. Builds source text) × (line_of outcome ≡ [])
+text_due : (words : List (List ℕ)) (old new : ShelfView) (outcome : Outcome) (text : List ℕ) → IsDue words old new outcome → status_of outcome ≡ 0 → IsTextOf outcome text → (task : Task) × (name : List ℕ) × IsCommand words task name × OnFile old.files name (λ source. IsMade task source text) × (line_of outcome ≡ [])
 text_due words old new outcome text (over_files told o given faults) e t = text_outcome words old.files _ outcome _ text told o e t
 text_due words old new outcome text (cannot_read a rose named) e t = absurd (omega arith)
 text_due words old new outcome text (no_memory a) e t = absurd (omega arith)
@@ -112,25 +132,24 @@ text_due words old new outcome text (no_memory a) e t = absurd (omega arith)
 -- the text of an outcome of another status is none
 no_text : (outcome : Outcome) (text : List ℕ) → status_of outcome ≢ 0 → IsTextOf outcome text → text ≡ []
 no_text (Refuses status line) text n t = t
-no_text (Compiles sum) text n t = absurd (n refl)
+no_text (Makes task tree) text n t = absurd (n refl)
 
 -- a command was asked for where another outcome than that of wrong words is due
-command_due : (words : List (List ℕ)) (old new : ShelfView) (outcome : Outcome) → IsDue words old new outcome → status_of outcome ≢ 1 → (name : List ℕ) × IsCompile words name
+command_due : (words : List (List ℕ)) (old new : ShelfView) (outcome : Outcome) → IsDue words old new outcome → status_of outcome ≢ 1 → (task : Task) × (name : List ℕ) × IsCommand words task name
 command_due words old new outcome (over_files told (usage m) given faults) n = absurd (n refl)
-command_due words old new outcome (over_files told (missing {name = name} a at) given faults) n = (name, a)
-command_due words old new outcome (over_files told (not_built {name = name} a at u) given faults) n = (name, a)
-command_due words old new outcome (over_files told (compiled {name = name} a at r) given faults) n = (name, a)
-command_due words old new outcome (cannot_read {name = name} a rose named) n = (name, a)
-command_due words old new outcome (no_memory {name = name} a) n = (name, a)
+command_due words old new outcome (over_files told (missing a at) given faults) n = (_, _, a)
+command_due words old new outcome (over_files told (found a at r) given faults) n = (_, _, a)
+command_due words old new outcome (cannot_read a rose named) n = (_, _, a)
+command_due words old new outcome (no_memory a) n = (_, _, a)
 
 -- what is said in place of what is due is due
 said_due : (words : List (List ℕ)) (old new : ShelfView) (outcome said : Outcome) → IsDue words old new outcome → IsSaid outcome said → IsDue words old new said
 said_due words old new outcome said due (inl same) = subst (λ o. IsDue words old new o) (sym same) due
-said_due words old new outcome said due (inr memory) = subst (λ o. IsDue words old new o) (sym memory.1) (no_memory (command_due words old new outcome due memory.0).1)
+said_due words old new outcome said due (inr memory) = subst (λ o. IsDue words old new o) (sym memory.1) (no_memory (command_due words old new outcome due memory.0).2)
 
 -- what was answered is due, and was put
 pub answered : {Z : Type 0} (answer : Result (Vec ℕ Z) Refusal) (words : List (List ℕ)) (old new : ShelfView) (out_old out_new err_old err_new : SinkView) (status : ℕ) → IsAnswer words old new answer → IsPublished answer out_old out_new err_old err_new status → (outcome : Outcome) × IsDue words old new outcome × IsPut outcome out_old out_new err_old err_new status
-answered (Ok text) words old new out_old out_new err_old err_new status due put = (Compiles due.0, due.1, put (Compiles due.0) due.2 refl refl)
+answered (Ok text) words old new out_old out_new err_old err_new status due put = (Makes due.0 due.1, due.2, put (Makes due.0 due.1) due.3 refl refl)
 answered (Err refusal) words old new out_old out_new err_old err_new status due put = (put.0, said_due words old new (outcome_of refusal) put.0 due put.1, put.2)
 
 -- What follows of the status from what is due and was put.
@@ -142,12 +161,12 @@ module _ (words : List (List ℕ)) (old new : ShelfView) (out_old out_new err_ol
   put_whole outcome status (err_failed out err) n = absurd (n refl)
 
   module _ (status : ℕ) (done : (outcome : Outcome) × IsDue words old new outcome × IsPut outcome out_old out_new err_old err_new status) where
-    pub text_of_zero : status ≡ 0 → (name : List ℕ) × (text : List ℕ) × IsCompile words name × OnFile old.files name (λ source. Builds source text) × Appends out_old.held out_new.held text × (err_new.held ≡ err_old.held)
+    pub text_of_zero : status ≡ 0 → (task : Task) × (name : List ℕ) × (text : List ℕ) × IsCommand words task name × OnFile old.files name (λ source. IsMade task source text) × Appends out_old.held out_new.held text × (err_new.held ≡ err_old.held)
     text_of_zero e =
         let put = put_whole done.0 status done.2 (λ three. omega arith) in
         let text = text_due words old new done.0 put.0 done.1 (sym put.4 ∙ e) put.1 in
-        let line : Appends err_old.held err_new.held [] = subst (λ line. Appends err_old.held err_new.held line) text.3 put.3.held in
-        (text.0, put.0, text.1, text.2, put.2.held, append_nothing _ _ line)
+        let line : Appends err_old.held err_new.held [] = subst (λ line. Appends err_old.held err_new.held line) text.4 put.3.held in
+        (text.0, text.1, put.0, text.2, text.3, put.2.held, append_nothing _ _ line)
 
     pub out_unchanged : status ≢ 0 → status ≢ 3 → out_new.held ≡ out_old.held
     out_unchanged zero three =
@@ -164,9 +183,9 @@ module _ (words : List (List ℕ)) (old new : ShelfView) (out_old out_new err_ol
   put_status outcome status (out_failed l t out err) = inr (refl, inl (out.rose, l))
   put_status outcome status (err_failed out err) = inr (refl, inr err.rose)
 
-  pub status_among : (outcome : Outcome) (status : ℕ) → IsDue words old new outcome → IsPut outcome out_old out_new err_old err_new status → Contains (0 ∷ 1 ∷ 2 ∷ 3 ∷ 10 ∷ 11 ∷ []) status
+  pub status_among : (outcome : Outcome) (status : ℕ) → IsDue words old new outcome → IsPut outcome out_old out_new err_old err_new status → Contains statuses status
   status_among outcome status due put = elim (put_status outcome status put) [
-    | inl e ↦ subst (λ s. Contains (0 ∷ 1 ∷ 2 ∷ 3 ∷ 10 ∷ 11 ∷ []) s) (sym e) (due_status words old new outcome due)
+    | inl e ↦ subst (λ s. Contains statuses s) (sym e) (due_status words old new outcome due)
     | inr e ↦ (3, omega arith, sym e.0)
   ]
 
@@ -180,19 +199,19 @@ module _ (words : List (List ℕ)) (old new : ShelfView) (out_old out_new err_ol
       ]
 
   -- the status that is due is that of the outcome over the files
-  due_complete : (due outcome : Outcome) (read : ℕ) → IsDue words old new due → IsSomeAnd old.files (λ files. IsOutcome words files outcome read) → ¬ Rose old.faults new.faults ⊎ (status_of outcome ≡ 2) → (status_of due ≡ status_of outcome) ⊎ (status_of due ≡ 10)
-  due_complete due outcome read (over_files told o given faults) over calm = inl (same_outcome old.files _ told o over)
+  due_complete : (one_outcome : (words : List (List ℕ)) (files : Files) (one other : Outcome) (read other_read : ℕ) → IsOutcome words files one read → IsOutcome words files other other_read → (one ≡ other) × (read ≡ other_read)) (due outcome : Outcome) (read : ℕ) → IsDue words old new due → IsSomeAnd old.files (λ files. IsOutcome words files outcome read) → ¬ Rose old.faults new.faults ⊎ (status_of outcome ≡ 2) → (status_of due ≡ status_of outcome) ⊎ (status_of due ≡ 10)
+  due_complete one_outcome due outcome read (over_files told o given faults) over calm = inl (same_outcome old.files _ told o over)
     where
       same_outcome : (told : Option Files) (files : Files) {n : ℕ} → AreFiles told files → IsOutcome words files due n → IsSomeAnd told (λ files. IsOutcome words files outcome read) → status_of due ≡ status_of outcome
       same_outcome None files are o over = elim over [ ]
-      same_outcome (Some told) files are o over = (one_outcome words files due outcome _ read o (subst (λ f. IsOutcome words f outcome read) are over)).0
-  due_complete due outcome read (cannot_read a rose named) over (inl calm) = absurd (calm rose)
-  due_complete due outcome read (cannot_read a rose named) over (inr two) = inl (sym two)
-  due_complete due outcome read (no_memory a) over calm = inr refl
+      same_outcome (Some told) files are o over = ap status_of (one_outcome words files due outcome _ read o (subst (λ f. IsOutcome words f outcome read) are over)).0
+  due_complete one_outcome due outcome read (cannot_read a rose named) over (inl calm) = absurd (calm rose)
+  due_complete one_outcome due outcome read (cannot_read a rose named) over (inr two) = inl (sym two)
+  due_complete one_outcome due outcome read (no_memory a) over calm = inr refl
 
-  pub status_complete : (due outcome : Outcome) (read status : ℕ) → IsDue words old new due → IsPut due out_old out_new err_old err_new status → IsSomeAnd old.files (λ files. IsOutcome words files outcome read) → ¬ Rose old.faults new.faults ⊎ (status_of outcome ≡ 2) → ¬ Rose out_old.faults out_new.faults → ¬ Rose err_old.faults err_new.faults → (status ≡ status_of outcome) ⊎ (status ≡ 10)
-  status_complete due outcome read status is put over calm out err = elim (put_status due status put) [
-    | inl e ↦ elim (due_complete due outcome read is over calm) [ inl same ↦ inl (e ∙ same) | inr ten ↦ inr (e ∙ ten) ]
+  pub status_complete : (one_outcome : (words : List (List ℕ)) (files : Files) (one other : Outcome) (read other_read : ℕ) → IsOutcome words files one read → IsOutcome words files other other_read → (one ≡ other) × (read ≡ other_read)) (due outcome : Outcome) (read status : ℕ) → IsDue words old new due → IsPut due out_old out_new err_old err_new status → IsSomeAnd old.files (λ files. IsOutcome words files outcome read) → ¬ Rose old.faults new.faults ⊎ (status_of outcome ≡ 2) → ¬ Rose out_old.faults out_new.faults → ¬ Rose err_old.faults err_new.faults → (status ≡ status_of outcome) ⊎ (status ≡ 10)
+  status_complete one_outcome due outcome read status is put over calm out err = elim (put_status due status put) [
+    | inl e ↦ elim (due_complete one_outcome due outcome read is over calm) [ inl same ↦ inl (e ∙ same) | inr ten ↦ inr (e ∙ ten) ]
     | inr (e, inl rose) ↦ absurd (out rose.0)
     | inr (e, inr rose) ↦ absurd (err rose)
   ]

@@ -1,54 +1,80 @@
-use Rattle.std.proofs.Common.{◌≡◌, ℕ, ◌+◌, ◌<◌, ◌≤◌, min, inl, inr, List, length, replicate, Option, Some, None, cond, refl, sym, ap, subst, ◌∙◌, arith}
+use Rattle.std.proofs.Common.{◌≡◌, ℕ, ◌+◌, ◌<◌, inl, inr, List, length, replicate, Option, Some, None, cond, refl, sym, ap, subst, ◌∙◌, arith}
 use Rattle.std.specs.Prelude.{IsSomeAnd}
 use Rattle.std.proofs.lemmas.List.{length-replicate}
 use Rattle.std.specs.Cmp.{eq_by_cmp_equiv}
 use Rattle.std.specs.Cmp.Lexicographic.{nat_list_cmp_total}
 use Rattle.std.specs.FinMap.{empty, get, get-insert, insert}
+use Rattle.text_tokens.specs.declared.token.Position.{Position}
+use Rattle.moa_tree.specs.Expr.{Tree}
+use Rattle.moa_tree.specs.Readings.{Reads}
+use Rattle.moa_tree.specs.Refusals.{IsRefused}
+use Rattle.psi_compile.specs.FirstForm.{IsFirstForm}
 use Rattle.psi_edges.specs.Causes.{raised}
 use Rattle.psi_edges.specs.Files.{Files, OnFile}
-use Rattle.psi_top.specs.Builds.{IsUnread}
-use Rattle.psi_top.specs.Command.{IsCompile, IsMisuse, not_built_line, usage_line}
-use Rattle.psi_top.specs.Outcome.{AreFiles, IsDue, IsOutcome, Outcome, line_of, most_read, status_of}
-use Rattle.psi_top.specs.Outcome.IsOutcome.{usage, missing, not_built, compiled}
-use Rattle.psi_top.specs.Outcome.Outcome.{Refuses, Compiles}
+use Rattle.psi_top.specs.Command.{IsCommand, IsMisuse}
+use Rattle.psi_top.specs.Line.{limit_line, usage_line}
+use Rattle.psi_top.specs.Made.{CanMake}
+use Rattle.psi_top.specs.Outcome.{AreFiles, IsDue, IsOutcome, IsSourceOutcome, Outcome, most_read}
+use Rattle.psi_top.specs.Outcome.IsOutcome.{usage, missing, found}
+use Rattle.psi_top.specs.Outcome.IsSourceOutcome.{too_long, refused, not_built, made}
+use Rattle.psi_top.specs.Outcome.Outcome.{Refuses, Makes}
 use Rattle.psi_top.specs.Views.{ShelfView}
-use Rattle.vector_sum.specs.Source.{Reads}
-use Rattle.vector_sum.specs.declared.source.VectorSum.{VectorSum}
+use Rattle.psi_top.specs.declared.command.Task.{Task}
+use Rattle.psi_top.specs.declared.command.Task.TheVariants.{ShowSource, Compile}
 
--- the file that the words name is one
-same_name : (words : List (List ℕ)) (name other : List ℕ) → IsCompile words name → IsCompile words other → name ≡ other
-same_name words name other a b = let both = sym a.form ∙ b.form in cc
+-- words are one command
+pub same_command : (words : List (List ℕ)) (task another : Task) (name other : List ℕ) → IsCommand words task name → IsCommand words another other → (task ≡ another) × (name ≡ other)
+same_command words ShowSource ShowSource name other a b = let both = sym a.form ∙ b.form in (refl, cc)
+same_command words ShowSource Compile name other a b = let both = sym a.form ∙ b.form in absurd (cc)
+same_command words Compile ShowSource name other a b = let both = sym a.form ∙ b.form in absurd (cc)
+same_command words Compile Compile name other a b = let both = sym a.form ∙ b.form in (refl, cc)
 
--- and so is what is found of it
-same_found : (words : List (List ℕ)) (files : Files) (name other : List ℕ) (found again : Option (List ℕ)) → IsCompile words name → IsCompile words other → get files name ≡ found → get files other ≡ again → found ≡ again
-same_found words files name other found again a b at there = sym at ∙ ap (λ n. get files n) (same_name words name other a b) ∙ there
+-- so there is one file that they name
+same_found : (words : List (List ℕ)) (files : Files) (task another : Task) (name other : List ℕ) (first again : Option (List ℕ)) → IsCommand words task name → IsCommand words another other → get files name ≡ first → get files other ≡ again → first ≡ again
+same_found words files task another name other first again a b at there = sym at ∙ ap (λ n. get files n) (same_command words task another name other a b).1 ∙ there
 
--- words come to one outcome over files
-pub one_outcome : (words : List (List ℕ)) (files : Files) (one other : Outcome) (read other_read : ℕ) → IsOutcome words files one read → IsOutcome words files other other_read → (status_of one ≡ status_of other) × (line_of one ≡ line_of other) × (read ≡ other_read)
-one_outcome words files one other read other_read (usage m) (usage n) = (refl, refl, refl)
-one_outcome words files one other read other_read (usage m) (missing b there) = absurd (m _ b)
-one_outcome words files one other read other_read (usage m) (not_built b there v) = absurd (m _ b)
-one_outcome words files one other read other_read (usage m) (compiled b there s) = absurd (m _ b)
-one_outcome words files one other read other_read (missing a at) (usage n) = absurd (n _ a)
-one_outcome words files one other read other_read (not_built a at u) (usage n) = absurd (n _ a)
-one_outcome words files one other read other_read (compiled a at r) (usage n) = absurd (n _ a)
-one_outcome words files one other read other_read (missing a at) (missing b there) = let same = same_name words _ _ a b in (refl, cc, refl)
-one_outcome words files one other read other_read (missing a at) (not_built b there v) = let same = same_found words files _ _ _ _ a b at there in absurd (cc)
-one_outcome words files one other read other_read (missing a at) (compiled b there s) = let same = same_found words files _ _ _ _ a b at there in absurd (cc)
-one_outcome words files one other read other_read (not_built a at u) (missing b there) = let same = same_found words files _ _ _ _ a b at there in absurd (cc)
-one_outcome words files one other read other_read (not_built a at u) (not_built b there v) =
-    let same = same_name words _ _ a b in let found = same_found words files _ _ _ _ a b at there in (refl, cc, cc)
-one_outcome words files one other read other_read (not_built {source = source} a at u) (compiled {source = source'} {sum = sum} b there s) =
-    let found = same_found words files _ _ _ _ a b at there in
-    let same : source' ≡ source = cc in
-    absurd (u sum (subst (λ text. Reads text sum) same s))
-one_outcome words files one other read other_read (compiled a at r) (missing b there) = let same = same_found words files _ _ _ _ a b at there in absurd (cc)
-one_outcome words files one other read other_read (compiled {source = source} {sum = sum} a at r) (not_built {source = source'} b there v) =
-    let found = same_found words files _ _ _ _ a b at there in
-    let same : source ≡ source' = cc in
-    absurd (v sum (subst (λ text. Reads text sum) same r))
-one_outcome words files one other read other_read (compiled a at r) (compiled b there s) =
-    let found = same_found words files _ _ _ _ a b at there in (refl, refl, cc)
+module _ (one_reading : (text : List ℕ) (first second : Tree) → Reads text first → Reads text second → first ≡ second) (one_refusal : (text : List ℕ) (first second : Position) (cause other : ℕ) → IsRefused text first cause → IsRefused text second other → (first ≡ second) × (cause ≡ other)) (never_both : (text : List ℕ) (tree : Tree) (position : Position) (cause : ℕ) → Reads text tree → IsRefused text position cause → ⊥) where
+  -- a program that can be compiled is of a form that is built
+  built : (task : Task) (source : List ℕ) (tree other : Tree) → task ≡ Compile → Reads source tree → Reads source other → (IsFirstForm tree → ⊥) → CanMake task other → ⊥
+  built task source tree other is read again none can =
+      none (subst IsFirstForm (sym (one_reading source tree other read again)) (subst (λ t. CanMake t other) is can))
+
+  -- a source comes to one outcome
+  one_source : (task : Task) (name source : List ℕ) (one other : Outcome) (read other_read : ℕ) → IsSourceOutcome task name source one read → IsSourceOutcome task name source other other_read → (one ≡ other) × (read ≡ other_read)
+  one_source task name source one other read other_read (too_long a) (too_long b) = (refl, refl)
+  one_source task name source one other read other_read (too_long a) (refused b s) = absurd (omega (arith, a, b))
+  one_source task name source one other read other_read (too_long a) (not_built b u s) = absurd (omega (arith, a, b))
+  one_source task name source one other read other_read (too_long a) (made b s can) = absurd (omega (arith, a, b))
+  one_source task name source one other read other_read (refused a r) (too_long b) = absurd (omega (arith, a, b))
+  one_source task name source one other read other_read (refused a r) (refused b s) =
+      let same = one_refusal source _ _ _ _ r s in (rw (same.0, same.1) refl, refl)
+  one_source task name source one other read other_read (refused a r) (not_built b u s) = absurd (never_both source s.tree _ _ s.read r)
+  one_source task name source one other read other_read (refused a r) (made b s can) = absurd (never_both source _ _ _ s r)
+  one_source task name source one other read other_read (not_built a t r) (too_long b) = absurd (omega (arith, a, b))
+  one_source task name source one other read other_read (not_built a t r) (refused b s) = absurd (never_both source r.tree _ _ r.read s)
+  one_source task name source one other read other_read (not_built {at = at} a t r) (not_built {at = there} b u s) =
+      let same : at ≡ there = let both = sym r.first ∙ s.first in cc in (rw same refl, refl)
+  one_source task name source one other read other_read (not_built a t r) (made b s can) = absurd (built task source _ _ t r.read s r.other can)
+  one_source task name source one other read other_read (made a r can) (too_long b) = absurd (omega (arith, a, b))
+  one_source task name source one other read other_read (made a r can) (refused b s) = absurd (never_both source _ _ _ r s)
+  one_source task name source one other read other_read (made a r can) (not_built b u s) = absurd (built task source _ _ u s.read r s.other can)
+  one_source task name source one other read other_read (made a r can) (made b s could) = (ap (λ tree. Makes task tree) (one_reading source _ _ r s), refl)
+
+  -- words come to one outcome over files
+  pub one_outcome : (words : List (List ℕ)) (files : Files) (one other : Outcome) (read other_read : ℕ) → IsOutcome words files one read → IsOutcome words files other other_read → (one ≡ other) × (read ≡ other_read)
+  one_outcome words files one other read other_read (usage m) (usage n) = (refl, refl)
+  one_outcome words files one other read other_read (usage m) (missing b there) = absurd (m _ _ b)
+  one_outcome words files one other read other_read (usage m) (found b there s) = absurd (m _ _ b)
+  one_outcome words files one other read other_read (missing a at) (usage n) = absurd (n _ _ a)
+  one_outcome words files one other read other_read (missing a at) (missing b there) = let same = same_command words _ _ _ _ a b in (rw same.1 refl, refl)
+  one_outcome words files one other read other_read (missing a at) (found b there s) = let same = same_found words files _ _ _ _ _ _ a b at there in absurd (cc)
+  one_outcome words files one other read other_read (found a at r) (usage n) = absurd (n _ _ a)
+  one_outcome words files one other read other_read (found a at r) (missing b there) = let same = same_found words files _ _ _ _ _ _ a b at there in absurd (cc)
+  one_outcome words files one other read other_read (found {task = task} {name = name} {source = source} a at r) (found {task = another} {name = again} {source = text} b there s) =
+      let command = same_command words task another name again a b in
+      let both = same_found words files _ _ _ _ _ _ a b at there in
+      let same : source ≡ text = cc in
+      one_source task name source one other read other_read r (rw (sym command.0, sym command.1, sym same) at s)
 
 -- there are files of each length
 long_file : (n : ℕ) → (file : List ℕ) × (n < length file)
@@ -75,26 +101,16 @@ due_usage words shelf misuse = IsDue.over_files (some_files shelf.files).1 (IsOu
     some_files None = (empty, tt)
     some_files (Some files) = (files, refl)
 
-module _ (words : List (List ℕ)) (old new : ShelfView) (name : List ℕ) (command : IsCompile words name) (faults : new.faults ≡ old.faults) where
-  -- a file that is too long is of no form
-  pub due_too_long : ((text : List ℕ) (v : VectorSum) → Reads text v → length text ≤ 512) → OnFile old.files name (λ file. 1048576 < length file) → new.given ≡ raised old.given most_read → IsDue words old new (Refuses 11 (not_built_line name))
-  due_too_long short on given =
+module _ (words : List (List ℕ)) (old new : ShelfView) (task : Task) (name : List ℕ) (command : IsCommand words task name) (faults : new.faults ≡ old.faults) where
+  -- the file is too long
+  pub due_too_long : OnFile old.files name (λ file. 1048576 < length file) → new.given ≡ raised old.given most_read → IsDue words old new (Refuses 6 (limit_line name))
+  due_too_long on given =
       let long = long_file 1048576 in
-      let found = file_at old.files name long.0 (λ file. 1048576 < length file) long.1 on in
-      let unread : IsUnread found.2 = λ v r. omega (arith, short found.2 v r, found.4) in
-      let read : most_read ≡ min (length found.2) most_read = omega (arith, found.4) in
-      IsDue.over_files found.1 (IsOutcome.not_built command found.3 unread) (inl (given ∙ ap (raised old.given) read)) faults
+      let file = file_at old.files name long.0 (λ file. 1048576 < length file) long.1 on in
+      IsDue.over_files file.1 (found command file.3 (too_long file.4)) (inl given) faults
 
-  module _ (bytes : List ℕ) (on : OnFile old.files name (λ file. bytes ≡ file)) (given : new.given ≡ raised old.given (length bytes)) where
-    -- the file was read, and is of no form
-    pub due_unread : length bytes ≤ 1048576 → IsUnread bytes → IsDue words old new (Refuses 11 (not_built_line name))
-    due_unread short unread =
-        let found = file_at old.files name bytes (λ file. bytes ≡ file) refl on in
-        let read : length bytes ≡ min (length found.2) most_read = omega (arith, ap length found.4) in
-        IsDue.over_files found.1 (IsOutcome.not_built command found.3 (subst IsUnread found.4 unread)) (inl (given ∙ ap (raised old.given) read)) faults
-
-    -- the file was read, and is the source of a sum
-    pub due_compiled : (sum : VectorSum) → Reads bytes sum → IsDue words old new (Compiles sum)
-    due_compiled sum reads =
-        let found = file_at old.files name bytes (λ file. bytes ≡ file) refl on in
-        IsDue.over_files found.1 (IsOutcome.compiled command found.3 (subst (λ text. Reads text sum) found.4 reads)) (inl (given ∙ ap (λ file. raised old.given (length file)) found.4)) faults
+  -- the file was read, and came to this outcome
+  pub due_source : (bytes : List ℕ) → OnFile old.files name (λ file. bytes ≡ file) → new.given ≡ raised old.given (length bytes) → (outcome : Outcome) → IsSourceOutcome task name bytes outcome (length bytes) → IsDue words old new outcome
+  due_source bytes on given outcome is =
+      let file = file_at old.files name bytes (λ file. bytes ≡ file) refl on in
+      IsDue.over_files file.1 (found command file.3 (subst (λ source. IsSourceOutcome task name source outcome (length bytes)) file.4 is)) (inl given) faults

@@ -1,32 +1,29 @@
 -- What the code says of outcomes.
 use Rattle.std.specs.Prelude.{ℕ, ◌≡◌, ◌≢◌, ◌⊎◌, List, [], MatchResult, Result, Vec}
-use Rattle.psi_top.specs.Builds.{IsCompiled}
-use Rattle.psi_top.specs.Command.{IsCompile, usage_line, cannot_read_line, no_memory_line, not_built_line}
+use Rattle.moa_tree.specs.Expr.{Tree}
+use Rattle.psi_top.specs.Line.{usage_line, cannot_read_line, limit_line, no_memory_line, not_built_line, text_line}
+use Rattle.psi_top.specs.Made.{IsTextFor}
 use Rattle.psi_top.specs.Outcome.{IsDue, IsTextOf, Outcome, line_of, status_of}
-use Rattle.psi_top.specs.Outcome.Outcome.{Refuses, Compiles}
+use Rattle.psi_top.specs.Outcome.Outcome.{Refuses, Makes}
 use Rattle.psi_top.specs.Put.{IsPut}
 use Rattle.psi_top.specs.Views.{ShelfView, SinkView}
-use Rattle.psi_top.specs.declared.command.Command.{Command}
-use Rattle.psi_top.specs.declared.command.Command.TheVariants.{Compile}
+use Rattle.psi_top.specs.declared.command.Task.{Task}
 use Rattle.psi_top.specs.declared.refusal.Refusal.{Refusal}
-use Rattle.psi_top.specs.declared.refusal.Refusal.TheVariants.{Usage, CannotRead, NotBuilt, Memory}
-use Rattle.vector_sum.specs.declared.source.VectorSum.{VectorSum}
-
--- the words ask for a command
-abbrev pub Asks : List (List ℕ) → Command → Type 0
-Asks words (Compile name) = IsCompile words name.now
+use Rattle.psi_top.specs.declared.refusal.Refusal.TheVariants.{Usage, CannotRead, TooLong, Text, NotBuilt, Memory}
 
 -- the status and the line of a refusal
 abbrev pub outcome_of : Refusal → Outcome
 outcome_of Usage = Refuses 1 usage_line
 outcome_of (CannotRead name) = Refuses 2 (cannot_read_line name.now)
-outcome_of (NotBuilt name) = Refuses 11 (not_built_line name.now)
+outcome_of (TooLong name) = Refuses 6 (limit_line name.now)
+outcome_of (Text name at cause) = Refuses 4 (text_line name.now at cause)
+outcome_of (NotBuilt name at) = Refuses 11 (not_built_line name.now at)
 outcome_of Memory = Refuses 10 no_memory_line
 
 -- what is answered is due
 abbrev pub IsAnswer : {Z : Type 0} → List (List ℕ) → ShelfView → ShelfView → Result (Vec ℕ Z) Refusal → Type 0
 IsAnswer words old new answer = MatchResult answer
-    (λ text. (sum : VectorSum) × IsDue words old new (Compiles sum) × IsCompiled sum text.items)
+    (λ text. (task : Task) × (tree : Tree) × IsDue words old new (Makes task tree) × IsTextFor task tree text.items)
     (λ refusal. IsDue words old new (outcome_of refusal))
 
 -- a refusal is said as it is, or there is no memory for its line, which that of wrong words does not need

@@ -1,6 +1,7 @@
 pub mod Answer
-pub mod Builds
 pub mod Command
+pub mod Line
+pub mod Made
 pub mod Outcome
 pub mod Put
 pub mod Views

@@ -2,7 +2,7 @@
 use Rattle.std.specs.Prelude.{ℕ, ◌≡◌, ◌⊎◌, List, []}
 use Rattle.psi_edges.specs.Causes.{Rose}
 use Rattle.psi_edges.specs.Held.{Appends, AppendsFront}
-use Rattle.psi_top.specs.Command.{cannot_write_line}
+use Rattle.psi_top.specs.Line.{cannot_write_line}
 use Rattle.psi_top.specs.Outcome.{IsTextOf, Outcome, line_of, status_of}
 use Rattle.psi_top.specs.Views.{SinkView}
 

@@ -1,65 +1,87 @@
 // The commands of the program.
-ghost use Rattle.std.specs.Prelude.{◌≡◌, ◌≢◌, ℕ, ◌+◌, ◌≤◌, ◌⊎◌, List, [], ◌∷◌, length, map, IfOk, IfSome, IfNone, IsSomeAnd, string_bytes, Contains};
+ghost use Rattle.std.specs.Prelude.{◌≡◌, ◌≢◌, ℕ, ◌+◌, ◌≤◌, ◌⊎◌, List, [], ◌∷◌, length, map, Err, IfOk, IsSomeAnd, string_bytes, Contains};
+ghost use Rattle.text_tokens.specs.declared.token.Position.{Position as TextPosition};
+ghost use Rattle.moa_tree.specs.Refusals.{IsRefused};
+ghost use Rattle.psi_compile.specs.FirstForm.{IsNotBuilt};
+ghost use Rattle.psi_compile.specs.declared.error.CompileError.TheVariants as error;
 ghost use Rattle.psi_edges.specs.Causes.{Rose};
 ghost use Rattle.psi_edges.specs.Files.{OnFile};
 ghost use Rattle.psi_edges.specs.Held.{Appends};
 ghost use Rattle.psi_top.specs.Answer.{IsAnswer, IsPublished};
-ghost use Rattle.psi_top.specs.Builds.{Builds, IsUnread};
-ghost use Rattle.psi_top.specs.Command.{IsCompile, IsMisuse};
+ghost use Rattle.psi_top.specs.Command.{IsCommand, IsMisuse};
+ghost use Rattle.psi_top.specs.Made.{IsMade};
 ghost use Rattle.psi_top.specs.Outcome.{IsDue, IsOutcome, IsTextOf, Outcome, line_of, most_read, status_of};
 ghost use Rattle.psi_top.specs.Put.{IsPut};
 ghost use Rattle.psi_top.specs.Views.{shelf_view, sink_view};
+ghost use Rattle.psi_top.specs.declared.command.Task.{Task as AnyTask};
+ghost use Rattle.psi_top.specs.declared.command.Task.TheVariants.{ShowSource, Compile};
 
-use crate::command::{Command, command_of};
+use crate::command::{Command, Task, command_of};
+use crate::laws::one_outcome;
 use crate::refusal::{CANNOT_WRITE_STATUS, Refusal, put_line, refuse};
+use moa_reader::{print, read};
+use psi_compile::laws::refusals_are_the_readers;
+use psi_compile::{CompileError, compile};
 use psi_edges::{Fetch, Shelf, Sink, WriteFault, read_whole, write_whole};
-use rv_line::spelling_laws::texts_spell_one;
-use rv_line::text;
-use shapes_core::NoMemory;
 use std::alloc::Global;
-use vector_sum::{kernel, recognise, sources_are_short};
 
 /// The greatest number of bytes in a source.
 const LONGEST_SOURCE: u64 = 1048576;
 
 const CANNOT_WRITE: &[u8] = b"psic: cannot write\n";
 
-/// The text for a source, or `None` where the source has none yet.
-fn text_for(alloc: Global, source: &[u8]) -> Result<Option<Vec<u8>>, NoMemory>
-    ensures built { IfOk result (λ found. IfSome found (λ text. Builds source.now text.items)) }
-    ensures unbuilt { IfOk result (λ found. IfNone found (IsUnread source.now)) }
+/// The canonical text of the program that a source reads as.
+fn shown(alloc: Global, source: &[u8]) -> Result<Vec<u8>, CompileError>
+    requires { length source.now ≤ 1048576 }
+    ensures made { IfOk result (λ text. IsMade ShowSource source.now text.items) }
+    ensures refused { (at : TextPosition) (cause : ℕ) → result ≡ Err (error.Text at cause)
+        → IsRefused source.now at cause }
+    ensures built { (at : TextPosition) → result ≢ Err (error.NotBuilt at) }
 {
-    let Some(sum) = recognise(alloc, source)? else {
-        return Ok(None);
-    };
-    let program = kernel(alloc, &sum)?;
-    texts_spell_one();
-    Ok(Some(text(alloc, &program)?))
+    refusals_are_the_readers();
+    let program = read(alloc, source)?;
+    Ok(print(alloc, &program)?)
 }
 
-/// The text for the file of this name.
-fn compile<'a, F: Shelf>(
+/// The text that a task makes of a source.
+fn text_for(alloc: Global, task: Task, source: &[u8]) -> Result<Vec<u8>, CompileError>
+    requires { length source.now ≤ 1048576 }
+    ensures made { IfOk result (λ text. IsMade task source.now text.items) }
+    ensures refused { (at : TextPosition) (cause : ℕ) → result ≡ Err (error.Text at cause)
+        → IsRefused source.now at cause }
+    ensures not_built { (at : TextPosition) → result ≡ Err (error.NotBuilt at)
+        → (task ≡ Compile) × IsNotBuilt source.now at }
+{
+    match task {
+        Task::ShowSource => shown(alloc, source),
+        Task::Compile => compile(alloc, source),
+    }
+}
+
+/// The text that a command makes of its file.
+fn answer_of<'a, F: Shelf>(
     alloc: Global,
+    command: Command<'a>,
     shelf: &mut F,
-    name: &'a str,
 ) -> Result<Vec<u8>, Refusal<'a>>
-    requires { length name.now ≤ 4096 }
-    ensures due { (words : List (List ℕ)) → IsCompile words name.now
+    requires { length command.name.now ≤ 4096 }
+    ensures due { (words : List (List ℕ)) → IsCommand words command.entry.task command.entry.name.now
         → IsAnswer words (shelf_view F.Shelf shelf.old) (shelf_view F.Shelf shelf.new) result }
     ensures unchanged { F.files shelf.new ≡ F.files shelf.old }
     ensures later { F.faults shelf.old ≤ F.faults shelf.new }
     ensures more_given { F.given shelf.old ≤ F.given shelf.new }
     ensures most_given { F.given shelf.new ≤ F.given shelf.old + most_read }
 {
-    sources_are_short();
+    let name = command.name;
     match read_whole(alloc, shelf, name, LONGEST_SOURCE) {
         Err(Fetch::Fault) => Err(Refusal::CannotRead(name)),
-        Err(Fetch::TooLong) => Err(Refusal::NotBuilt(name)),
+        Err(Fetch::TooLong) => Err(Refusal::TooLong(name)),
         Err(Fetch::Memory) => Err(Refusal::Memory),
-        Ok(source) => match text_for(alloc, &source) {
-            Ok(Some(text)) => Ok(text),
-            Ok(None) => Err(Refusal::NotBuilt(name)),
-            Err(NoMemory) => Err(Refusal::Memory),
+        Ok(source) => match text_for(alloc, command.task, &source) {
+            Ok(text) => Ok(text),
+            Err(CompileError::Text { at, cause }) => Err(Refusal::Text { name, at, cause }),
+            Err(CompileError::NotBuilt { at }) => Err(Refusal::NotBuilt { name, at }),
+            Err(CompileError::Memory) => Err(Refusal::Memory),
         },
     }
 }
@@ -79,7 +101,7 @@ fn answer_to<'a, F: Shelf>(
 {
     match command_of(words) {
         None => Err(Refusal::Usage),
-        Some(Command::Compile(name)) => compile(alloc, shelf, name),
+        Some(command) => answer_of(alloc, command, shelf),
     }
 }
 
@@ -121,11 +143,13 @@ fn publish<K: Sink, E: Sink>(
 /// | status | comes | line put to `err` |
 /// |---|---|---|
 /// | 0 | the whole text was put to `out` | none |
-/// | 1 | the words are not `compile FILE`, with a name of at most 4096 bytes | `usage: psic compile FILE` |
+/// | 1 | the words are not `show source FILE` or `compile FILE`, with a name of at most 4096 bytes | `usage: psic show source FILE \| compile FILE` |
 /// | 2 | a read of the file failed | `psic: cannot read FILE` |
 /// | 3 | a put failed | `psic: cannot write`, where that was of `out` |
+/// | 4 | the file is no program | `FILE:LINE:COLUMN: text CAUSE: ` and the cause in words |
+/// | 6 | the file has more than 1048576 bytes | `FILE: limit 1: longer than 1048576 bytes` |
 /// | 10 | memory was wanted | `psic: no memory` |
-/// | 11 | the file is of no form that is built | `FILE:1:1: not built` |
+/// | 11 | the program is of no form that is built, for `compile` alone | `FILE:LINE:COLUMN: not built`, at its first name |
 ///
 /// Everything is composed before the first byte is put.
 pub fn psi<F: Shelf, K: Sink, E: Sink>(
@@ -140,10 +164,10 @@ pub fn psi<F: Shelf, K: Sink, E: Sink>(
         × IsDue (map string_bytes words.now) (shelf_view F.Shelf shelf.old) (shelf_view F.Shelf shelf.new) outcome
         × IsPut outcome (sink_view K.Sink out.old) (sink_view K.Sink out.new)
         (sink_view E.Sink err.old) (sink_view E.Sink err.new) result }
-    // At 0 the text is that of the named file.
-    ensures compiled { result ≡ 0 → (name : List ℕ) × (text : List ℕ)
-        × IsCompile (map string_bytes words.now) name
-        × OnFile (F.files shelf.old) name (λ source. Builds source text)
+    // At 0 the text is what the task makes of the named file.
+    ensures made { result ≡ 0 → (task : AnyTask) × (name : List ℕ) × (text : List ℕ)
+        × IsCommand (map string_bytes words.now) task name
+        × OnFile (F.files shelf.old) name (λ source. IsMade task source text)
         × Appends (K.held out.old) (K.held out.new) text
         × (E.held err.new ≡ E.held err.old) }
     // Where no call of the outside fails and there is memory, the status is that of the outcome.
@@ -160,7 +184,7 @@ pub fn psi<F: Shelf, K: Sink, E: Sink>(
     ensures puts_counted { result ≢ 3
         → (K.faults out.new ≡ K.faults out.old) × (E.faults err.new ≡ E.faults err.old) }
     ensures reads_counted { result ≢ 2 → result ≢ 3 → result ≢ 10 → F.faults shelf.new ≡ F.faults shelf.old }
-    ensures statuses { Contains (0 ∷ 1 ∷ 2 ∷ 3 ∷ 10 ∷ 11 ∷ []) result }
+    ensures statuses { Contains (0 ∷ 1 ∷ 2 ∷ 3 ∷ 4 ∷ 6 ∷ 10 ∷ 11 ∷ []) result }
     // What it leaves: the same files, counts that never fall, and at most so many bytes given.
     ensures unchanged { F.files shelf.new ≡ F.files shelf.old }
     ensures later { (F.faults shelf.old ≤ F.faults shelf.new)
@@ -168,6 +192,7 @@ pub fn psi<F: Shelf, K: Sink, E: Sink>(
     ensures given { (F.given shelf.old ≤ F.given shelf.new)
         × (F.given shelf.new ≤ F.given shelf.old + most_read) }
 {
+    one_outcome();
     let answer = answer_to(alloc, words, shelf);
     publish(alloc, out, err, answer)
 }

@@ -1,20 +1,42 @@
 // Why a command is refused, and how that is said.
-ghost use Rattle.std.specs.Prelude.{◌≡◌, ◌≤◌, ◌++◌, IfOk, OnOk};
+ghost use Rattle.std.specs.Fmt.{decimal};
+ghost use Rattle.std.specs.Prelude.{◌≡◌, ◌≤◌, ◌++◌, IfOk, OnOk, codes};
 ghost use Rattle.psi_top.specs.Answer.{IsSaid, outcome_of};
+ghost use Rattle.psi_top.specs.Line.{cause_words, place};
 ghost use Rattle.psi_top.specs.Outcome.{Outcome, line_of, status_of};
 ghost use Rattle.psi_top.specs.Put.{IsLinePut};
 ghost use Rattle.psi_top.specs.Views.{sink_view};
 
+use itoa::Buffer;
 use psi_edges::{Sink, WriteFault, write_whole};
 use shapes_core::NoMemory;
 use std::alloc::Global;
+use text_tokens::Position;
 
 /// The status where a put failed.
 pub(crate) const CANNOT_WRITE_STATUS: u8 = 3;
 
-const USAGE: &[u8] = b"usage: psic compile FILE\n";
+const USAGE: &[u8] = b"usage: psic show source FILE | compile FILE\n";
 
 const NO_MEMORY: &[u8] = b"psic: no memory\n";
+
+/// Why a source is refused, by the number of the cause, from 1 on.
+const CAUSES: [&str; 14] = [
+    "these bytes form no token",
+    "the number is out of range",
+    "the name is too long",
+    "the version psi 1 is wanted",
+    "a statement is wanted",
+    "an out statement is wanted",
+    "a name is wanted",
+    "the sign = is wanted",
+    "an expression is wanted",
+    "the sign ) is wanted",
+    "the sign < is wanted",
+    "a number is wanted",
+    "an operator is wanted",
+    "the expression is nested too deep",
+];
 
 /// Why a command is refused.
 #[derive(Clone, Copy)]
@@ -23,10 +45,68 @@ pub(crate) enum Refusal<'a> {
     Usage,
     /// A read of the file of this name failed.
     CannotRead(&'a str),
+    /// The file of this name is longer than a source may be.
+    TooLong(&'a str),
+    /// The file of this name is no program, for this cause at this position.
+    Text {
+        name: &'a str,
+        at: Position,
+        cause: u8,
+    },
     /// The file of this name is of no form that is built.
-    NotBuilt(&'a str),
+    NotBuilt {
+        name: &'a str,
+        at: Position,
+    },
     /// Memory was wanted.
     Memory,
+}
+
+/// The words for a cause.
+#[tactic(auto, unfolding(crate::specs::Line::cause_words))]
+fn cause_words(cause: u8) -> &'static str
+    ensures { result.now ≡ cause_words cause }
+{
+    let causes: [&str; 14] = CAUSES;
+    causes
+        .get((cause as usize).saturating_sub(1))
+        .copied()
+        .unwrap_or("")
+}
+
+/// Adds a number in decimal digits.
+fn push_number(line: &mut Vec<u8>, number: u32) -> Result<(), NoMemory>
+    ensures { OnOk result (line.new.items ≡ line.old.items ++ decimal number) }
+{
+    let mut buffer = Buffer::new();
+    line.extend_from_slice(buffer.format(number).as_bytes())?;
+    Ok(())
+}
+
+/// Adds a place of the file of this name.
+fn push_place(line: &mut Vec<u8>, name: &str, at: Position) -> Result<(), NoMemory>
+    ensures { OnOk result (line.new.items ≡ line.old.items ++ place name.now at) }
+{
+    line.extend_from_slice(name.as_bytes())?;
+    line.extend_from_slice(b":")?;
+    push_number(line, at.line)?;
+    line.extend_from_slice(b":")?;
+    push_number(line, at.column)?;
+    line.extend_from_slice(b": ")?;
+    Ok(())
+}
+
+/// Adds a cause with its words.
+fn push_cause(line: &mut Vec<u8>, cause: u8) -> Result<(), NoMemory>
+    ensures { OnOk result (line.new.items
+        ≡ line.old.items ++ codes "text " ++ decimal cause ++ codes ": " ++ cause_words cause ++ codes "\n") }
+{
+    line.extend_from_slice(b"text ")?;
+    push_number(line, u32::from(cause))?;
+    line.extend_from_slice(b": ")?;
+    line.extend_from_slice(cause_words(cause).as_bytes())?;
+    line.extend_from_slice(b"\n")?;
+    Ok(())
 }
 
 impl Refusal<'_> {
@@ -36,8 +116,10 @@ impl Refusal<'_> {
         match self {
             Refusal::Usage => 1,
             Refusal::CannotRead(_) => 2,
-            Refusal::NotBuilt(_) => 11,
+            Refusal::Text { .. } => 4,
+            Refusal::TooLong(_) => 6,
             Refusal::Memory => 10,
+            Refusal::NotBuilt { .. } => 11,
         }
     }
 
@@ -52,9 +134,17 @@ impl Refusal<'_> {
                 line.extend_from_slice(name.as_bytes())?;
                 line.extend_from_slice(b"\n")?;
             }
-            Refusal::NotBuilt(name) => {
+            Refusal::TooLong(name) => {
                 line.extend_from_slice(name.as_bytes())?;
-                line.extend_from_slice(b":1:1: not built\n")?;
+                line.extend_from_slice(b": limit 1: longer than 1048576 bytes\n")?;
+            }
+            Refusal::Text { name, at, cause } => {
+                push_place(&mut line, name, at)?;
+                push_cause(&mut line, cause)?;
+            }
+            Refusal::NotBuilt { name, at } => {
+                push_place(&mut line, name, at)?;
+                line.extend_from_slice(b"not built\n")?;
             }
             Refusal::Memory => line.extend_from_slice(NO_MEMORY)?,
         }

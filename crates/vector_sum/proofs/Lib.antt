@@ -1,4 +1,3 @@
-pub mod SourceLemmas
+pub mod FormLemmas
 pub mod StartLemmas
 pub mod SumLemmas
-pub mod WordLemmas

@@ -9,9 +9,9 @@ use Rattle.rv_steps.specs.Constants.{constant_lines}
 use Rattle.rv_steps.specs.Good.{IsStart}
 use Rattle.rv_steps.specs.Machine.{Config, address_of, register_at}
 use Rattle.vector_sum.specs.Kernel.{areas_of, header_of, lines_of, walk_lines}
-use Rattle.vector_sum.specs.Source.{is_sound}
-use Rattle.vector_sum.specs.declared.source.VectorSum.{VectorSum}
-use Rattle.vector_sum.proofs.SourceLemmas.{extent_most}
+use Rattle.vector_sum.specs.Form.{is_sound}
+use Rattle.vector_sum.specs.declared.form.VectorSum.{VectorSum}
+use Rattle.vector_sum.proofs.FormLemmas.{extent_most}
 
 -- registers of which x1 holds an address to return to and x10 that of the block, and the others 0
 abbrev registers_with : ℕ → List ℕ

@@ -11,7 +11,7 @@ use Rattle.rv_steps.specs.Machine.{value_at}
 use Rattle.vector_sum.specs.Kernel.{areas_of, header_of}
 use Rattle.vector_sum.specs.Meaning.{demand}
 use Rattle.vector_sum.specs.Walk.{sum_at}
-use Rattle.vector_sum.specs.declared.source.VectorSum.{VectorSum}
+use Rattle.vector_sum.specs.declared.form.VectorSum.{VectorSum}
 
 same_map : (f g : ℕ → ℤ) (xs : List ℕ) → ((i : ℕ) → f i ≡ g i) → map f xs ≡ map g xs
 same_map f g [] same = refl

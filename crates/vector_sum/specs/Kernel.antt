@@ -10,7 +10,7 @@ use Rattle.rv_line.specs.declared.line.Load.TheVariants.{Ld}
 use Rattle.rv_line.specs.declared.line.Store.TheVariants.{Sd}
 use Rattle.rv_line.specs.declared.line.Branch.TheVariants.{Bne}
 use Rattle.rv_steps.specs.Constants.{constant_lines}
-use Rattle.vector_sum.specs.declared.source.VectorSum.{VectorSum}
+use Rattle.vector_sum.specs.declared.form.VectorSum.{VectorSum}
 
 -- the areas of the block, one after another in the order of declaration
 abbrev pub areas_of : VectorSum → List Area

@@ -1,5 +1,4 @@
+pub mod Form
 pub mod Kernel
 pub mod Meaning
-pub mod Source
 pub mod Walk
-pub mod Words

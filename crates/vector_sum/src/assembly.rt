@@ -14,11 +14,11 @@ ghost use Rattle.rv_steps.specs.Kinds.{is_base, is_free};
 ghost use Rattle.rv_steps.specs.Machine.{Config};
 ghost use Rattle.rv_steps.specs.Stops.{Ends};
 ghost use Rattle.vector_sum.specs.Meaning.{demand};
-ghost use Rattle.vector_sum.specs.Source.{is_sound};
+ghost use Rattle.vector_sum.specs.Form.{is_sound};
 ghost use Rattle.rv_steps.specs.Constants.{constant_lines};
 ghost use Rattle.vector_sum.specs.Kernel.{areas_of, header_of, lines_of, walk_lines};
 
-use crate::source::VectorSum;
+use crate::form::VectorSum;
 use crate::walk::program_serves;
 use rv_line::{Assembly, Branch, Header, Imm, Line, Load, Store, Three};
 use rv_steps::{constant_laws, run_laws};

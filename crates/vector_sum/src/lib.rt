@@ -1,13 +1,11 @@
-// The form of a source that is built, the sum of two vectors, and its program.
+// The program of the sum of two vectors.
 #![tactic(auto)]
 
 mod assembly;
-mod joined;
-mod source;
+mod form;
 mod starts;
 mod walk;
-mod words;
 
 pub use assembly::kernel;
-pub use source::{VectorSum, recognise, sources_are_short};
+pub use form::VectorSum;
 pub use starts::starts_exist;

@@ -3,8 +3,8 @@ ghost use Rattle.rv_steps.specs.Good.{IsStart};
 ghost use Rattle.rv_steps.specs.Machine.{Config};
 ghost use Rattle.std.specs.Prelude.{IsTrue};
 ghost use Rattle.vector_sum.specs.Kernel.{areas_of, header_of, lines_of};
-ghost use Rattle.vector_sum.specs.Source.{is_sound};
-ghost use Rattle.vector_sum.specs.declared.source.VectorSum.{VectorSum};
+ghost use Rattle.vector_sum.specs.Form.{is_sound};
+ghost use Rattle.vector_sum.specs.declared.form.VectorSum.{VectorSum};
 
 use rv_steps::constant_laws;
 

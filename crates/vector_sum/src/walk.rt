@@ -9,7 +9,7 @@ ghost use Rattle.std.specs.Prelude.{List, [], length, ℕ, ◌%◌, ◌*◌, ◌
 ghost use Rattle.vector_sum.specs.Kernel.{areas_of, header_of, lines_of, pointer_lines, turn_lines};
 ghost use Rattle.vector_sum.specs.Meaning.{demand};
 ghost use Rattle.vector_sum.specs.Walk.{IsAfterTurns, IsWalking, Walk, turn_accesses, walk_accesses};
-ghost use Rattle.vector_sum.specs.declared.source.VectorSum.{VectorSum};
+ghost use Rattle.vector_sum.specs.declared.form.VectorSum.{VectorSum};
 
 use rv_steps::loop_laws::Invariant;
 use rv_steps::{access_laws, constant_laws, frame_laws, loop_laws, machine_laws, run_laws};

@@ -4,12 +4,12 @@ use Rattle.psi_top.proofs.program.psi.Goals as goal
 pub returns-clause-answered : goal.returns-clause-answered
 returns-clause-answered g c = lemmas.answered _ _ _ _ _ _ _ _ _ c.answer_to-answer.ensures.due c.publish.ensures.put
 
-pub returns-clause-compiled : goal.returns-clause-compiled
-returns-clause-compiled g c = lemmas.text_of_zero _ _ _ _ _ _ _ _ (returns-clause-answered g c)
+pub returns-clause-made : goal.returns-clause-made
+returns-clause-made g c = lemmas.text_of_zero _ _ _ _ _ _ _ _ (returns-clause-answered g c)
 
 pub returns-clause-complete : goal.returns-clause-complete
 returns-clause-complete g c = λ outcome read over calm out err.
-    let done = returns-clause-answered g c in lemmas.status_complete _ _ _ _ _ _ _ done.0 outcome read _ done.1 done.2 over calm out err
+    let done = returns-clause-answered g c in lemmas.status_complete _ _ _ _ _ _ _ c.one_outcome.ensures done.0 outcome read _ done.1 done.2 over calm out err
 
 pub returns-clause-misuse : goal.returns-clause-misuse
 returns-clause-misuse g c = let done = returns-clause-answered g c in lemmas.misuse_status _ _ _ _ _ _ _ done.0 _ done.1 done.2

@@ -14,8 +14,8 @@ use Rattle.rv_line.specs.Parts.{Parts}
 use Rattle.rv_steps.specs.Stops.{Ends}
 use Rattle.vector_sum.specs.Kernel.{areas_of, header_of, lines_of, walk_lines}
 use Rattle.vector_sum.specs.Meaning.{demand}
-use Rattle.vector_sum.specs.Source.{is_sound}
-use Rattle.vector_sum.specs.declared.source.VectorSum.{VectorSum}
+use Rattle.vector_sum.specs.Form.{is_sound}
+use Rattle.vector_sum.specs.declared.form.VectorSum.{VectorSum}
 use Rattle.vector_sum.proofs.assembly.kernel.Goals as goal
 
 -- what holds of a program's parts holds of the program

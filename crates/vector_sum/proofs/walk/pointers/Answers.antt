@@ -9,7 +9,7 @@ use Rattle.rv_steps.specs.Pieces.{StandsAt}
 use Rattle.rv_steps.specs.Accesses.{Leads}
 use Rattle.vector_sum.specs.Kernel.{pointer_lines}
 use Rattle.vector_sum.specs.Walk.{IsWalking, sum_at}
-use Rattle.vector_sum.specs.declared.source.VectorSum.{VectorSum}
+use Rattle.vector_sum.specs.declared.form.VectorSum.{VectorSum}
 use Rattle.vector_sum.proofs.walk.pointers.Goals as goal
 use Rattle.vector_sum.proofs.walk.pointers.Goals.{After-pieces_stand}
 

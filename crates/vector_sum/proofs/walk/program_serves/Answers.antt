@@ -17,7 +17,7 @@ use Rattle.shapes_core.specs.declared.area.AreaKind.TheVariants.{In, Out}
 use Rattle.vector_sum.specs.Kernel.{areas_of, header_of, lines_of, pointer_lines, turn_lines, walk_lines}
 use Rattle.vector_sum.specs.Meaning.{demand}
 use Rattle.vector_sum.specs.Walk.{sum_at, turn_accesses, walk_accesses}
-use Rattle.vector_sum.specs.declared.source.VectorSum.{VectorSum}
+use Rattle.vector_sum.specs.declared.form.VectorSum.{VectorSum}
 use Rattle.vector_sum.proofs.SumLemmas.{outputs-demanded}
 use Rattle.vector_sum.proofs.walk.program_serves.Goals as goal
 use Rattle.vector_sum.proofs.walk.program_serves.Goals.{After-turns}

@@ -16,7 +16,7 @@ use Rattle.rv_steps.specs.Pieces.{StandsAt}
 use Rattle.rv_steps.specs.Accesses.{Leads}
 use Rattle.vector_sum.specs.Kernel.{turn_lines}
 use Rattle.vector_sum.specs.Walk.{IsWalking, sum_at, turn_accesses}
-use Rattle.vector_sum.specs.declared.source.VectorSum.{VectorSum}
+use Rattle.vector_sum.specs.declared.form.VectorSum.{VectorSum}
 use Rattle.vector_sum.proofs.walk.turn.Goals as goal
 use Rattle.vector_sum.proofs.walk.turn.Goals.{After-words_are_written}
 

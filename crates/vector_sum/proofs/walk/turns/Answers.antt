@@ -5,7 +5,7 @@ use Rattle.rv_steps.specs.Pieces.{StandsAt}
 use Rattle.rv_steps.specs.Accesses.{Leads}
 use Rattle.vector_sum.specs.Kernel.{turn_lines}
 use Rattle.vector_sum.specs.Walk.{IsAfterTurns, IsWalking, Walk, turn_accesses, walk_accesses}
-use Rattle.vector_sum.specs.declared.source.VectorSum.{VectorSum}
+use Rattle.vector_sum.specs.declared.form.VectorSum.{VectorSum}
 use Rattle.vector_sum.proofs.walk.turns.Goals as goal
 use Rattle.vector_sum.proofs.walk.turns.Goals.{After-turn}
 

@@ -1,0 +1,12 @@
+pub mod BuildLemmas
+pub mod CountLemmas
+pub mod HeadLemmas
+pub mod KeepLemmas
+pub mod LineLemmas
+pub mod ListLemmas
+pub mod OutcomeLemmas
+pub mod SourceLemmas
+pub mod StackLemmas
+pub mod StandingLemmas
+pub mod StatementLemmas
+pub mod WantLemmas

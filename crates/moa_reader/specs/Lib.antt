@@ -1,0 +1,11 @@
+pub mod Build
+pub mod Forms
+pub mod Frames
+pub mod Heads
+pub mod Lexemes
+pub mod Lists
+pub mod Outcomes
+pub mod Printed
+pub mod Sources
+pub mod Standing
+pub mod Statements

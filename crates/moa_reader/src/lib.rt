@@ -1,0 +1,22 @@
+// Reads source text and writes it: exactly the programs of the language, each with its positions, or the one
+// position and cause for which a text is refused.
+#![tactic(auto)]
+
+mod error;
+mod expression;
+mod forms;
+mod frames;
+mod growth;
+mod heads;
+mod lists;
+mod parts;
+mod pools;
+mod printer;
+mod reading;
+mod source;
+mod statements;
+mod words;
+
+pub use error::ReadError;
+pub use printer::print;
+pub use reading::read;

@@ -1,0 +1,4 @@
+pub mod DenotedLemmas
+pub mod FormLemmas
+pub mod ReadLemmas
+pub mod ServeLemmas
