@@ -8,6 +8,7 @@ use Rattle.text_tokens.specs.declared.token.Position.{Position}
 use Rattle.moa_tree.specs.declared.tree.Node.{Node}
 use Rattle.moa_tree.specs.declared.tree.Numbers.{Numbers}
 use Rattle.moa_tree.specs.declared.tree.Statement.{Statement}
+use Rattle.moa_tree.specs.declared.tree.Version.{Version}
 use Rattle.moa_tree.specs.Canonical.{canonical}
 use Rattle.moa_tree.specs.Pool.{IsOrdered, operands}
 use Rattle.moa_tree.specs.Pools.{AreThere, IsProgram, Pools, all_lists, covers, extents_of, lists_of, nodes_of, references, tree_of}
@@ -39,8 +40,8 @@ lists-there pools there extents =
     all-join (AreThere pools.numbers) (flat_map lists_of pools.nodes) (flat_map extents_of pools.statements)
     (all-parts (AreThere pools.numbers) lists_of pools.nodes there) (all-parts (AreThere pools.numbers) extents_of pools.statements extents)
 
-pub open_none : IsOpen [] [] no_pools
-open_none = record {
+pub open_none : (version : Version) → IsOpen [] [] (no_pools version)
+open_none version = record {
   placed = refl;
   ordered = λ k d within. absurd (omega (arith, within));
   lists_there = λ k d within. absurd (omega (arith, within));

@@ -9,7 +9,8 @@ use Rattle.text_tokens.specs.Tokens.{start}
 use Rattle.moa_tree.specs.declared.tree.Numbers.{Numbers}
 use Rattle.moa_tree.specs.declared.tree.Statement.{Statement}
 use Rattle.moa_tree.specs.declared.tree.Statement.TheVariants as statement
-use Rattle.moa_tree.specs.Expr.{Expr, Input, Let, Output, Psi, Take, Drop, Permute, Reshape}
+use Rattle.moa_tree.specs.declared.tree.Version.{Version}
+use Rattle.moa_tree.specs.Expr.{Expr, Item, Input, Let, Output, Psi, Take, Drop, Permute, Reshape, Tree}
 use Rattle.moa_tree.specs.Pool.{item_of, trees, walk_of}
 use Rattle.moa_tree.specs.Pools.{AreThere, Pools, extents_of, nodes_of, tree_of, walk}
 use Rattle.moa_tree.specs.Positions.{positions_at}
@@ -20,12 +21,14 @@ use Rattle.moa_reader.specs.declared.frames.Frame.{Frame}
 use Rattle.moa_reader.specs.declared.frames.Frame.TheVariants as frame
 use Rattle.moa_reader.specs.Build.{IsOpen, Keeps, with_statement}
 use Rattle.moa_reader.specs.Forms.{form_lists, one_of, two_of}
-use Rattle.moa_reader.specs.Frames.{frame_lists, frame_nodes, resume, resume_one}
+use Rattle.moa_reader.specs.Frames.{frame_lists, frame_nodes, frame_places, places_before, resume, resume_one}
+use Rattle.moa_reader.specs.Statements.{followed_by}
 use Rattle.moa_reader.proofs.BuildLemmas.{AllBelow, AllThere}
 use Rattle.moa_reader.proofs.CountLemmas.{all-cut, all-parts}
 
 pub keeps_itself : (pools : Pools) → Keeps pools pools
 keeps_itself pools = record {
+  version = refl;
   nodes_longer = omega arith;
   numbers_longer = omega arith;
   statements = refl;
@@ -36,6 +39,7 @@ keeps_itself pools = record {
 
 pub keeps_on : (first second third : Pools) → Keeps first second → Keeps second third → Keeps first third
 keeps_on first second third h k = record {
+  version = k.version ∙ h.version;
   nodes_longer = omega (arith, h.nodes_longer, k.nodes_longer);
   numbers_longer = omega (arith, h.numbers_longer, k.numbers_longer);
   statements = k.statements ∙ h.statements;
@@ -44,10 +48,14 @@ keeps_on first second third h k = record {
   stand = λ number within. k.stand number (omega (arith, within, h.nodes_longer)) ∙ h.stand number within;
 }
 
+abbrev tree_with : Version → List Item → Tree
+tree_with version items = record { version = version; statements = items }
+
 -- a statement more: its item, and the positions of its nodes
 pub statement_tree : (pools : Pools) (s : Statement)
-    → tree_of (with_statement pools s) ≡ tree_of pools ++ item_of pools.numbers (trees pools.numbers pools.nodes) s ∷ []
-statement_tree pools s = map-append (item_of pools.numbers (trees pools.numbers pools.nodes)) pools.statements (s ∷ [])
+    → tree_of (with_statement pools s) ≡ followed_by (tree_of pools) (item_of pools.numbers (trees pools.numbers pools.nodes) s ∷ [])
+statement_tree pools s =
+    ap (tree_with pools.version) (map-append (item_of pools.numbers (trees pools.numbers pools.nodes)) pools.statements (s ∷ []))
 
 pub statement_positions : (pools : Pools) (s : Statement)
     → positions_at pools.positions (walk (with_statement pools s))
@@ -74,10 +82,12 @@ module _ (old new : Pools) (h : Keeps old new) where
       ∙ ap (λ items. item_of old.numbers (trees old.numbers old.nodes) first ∷ items)
       (items_kept others (λ k d below. there (suc k) d (omega (arith, below))) (λ k d below. within (suc k) d (omega (arith, below))))
 
-  -- the statements that were there
+  -- the version, and the statements that were there
   pub program_kept : (roots : List ℕ) (lists : List Numbers) → IsOpen roots lists old → tree_of new ≡ tree_of old
   program_kept roots lists made =
-      ap (map (item_of new.numbers (trees new.numbers new.nodes))) h.statements ∙ items_kept old.statements made.extents_there made.nodes_there
+      ap (tree_with new.version)
+      (ap (map (item_of new.numbers (trees new.numbers new.nodes))) h.statements ∙ items_kept old.statements made.extents_there made.nodes_there)
+      ∙ ap (λ version. tree_with version (tree_of old).statements) h.version
 
   walks_kept : (numbers : List ℕ) → AllBelow (length old.nodes) numbers
       → positions_at new.positions (flat_map (walk_of new.nodes) numbers) ≡ positions_at old.positions (flat_map (walk_of old.nodes) numbers)
@@ -120,3 +130,17 @@ module _ (old new : Pools) (h : Keeps old new) where
       let lists = all-cut (AreThere old.numbers) (frame_lists first) (flat_map frame_lists others) there in
       ap (resume new (suc levels) others) (frame_kept levels first nodes.0 lists.0 found)
       ∙ resume_kept (suc levels) others nodes.1 lists.1 (resume_one old levels first found)
+
+  frame_stays : (form : Frame) → AllBelow (length old.nodes) (frame_nodes form) → frame_places new form ≡ frame_places old form
+  frame_stays frame.Parentheses within = refl
+  frame_stays (frame.One form at) within = refl
+  frame_stays (frame.First form at) within = refl
+  frame_stays (frame.Second form at left) within = ap (λ places. at ∷ places) (h.stand left within.0)
+
+  -- and where its expressions stand
+  pub frames_stay : (frames : List Frame) → AllBelow (length old.nodes) (flat_map frame_nodes frames) → places_before new frames ≡ places_before old frames
+  frames_stay [] within = refl
+  frames_stay (first ∷ others) within =
+      let nodes = all-cut (λ number. number < length old.nodes) (frame_nodes first) (flat_map frame_nodes others) within in
+      ap (λ places. places ++ frame_places new first) (frames_stay others nodes.1)
+      ∙ ap (λ places. places_before old others ++ places) (frame_stays first nodes.0)

@@ -1,15 +1,17 @@
 -- Numbers that are read one by one.
-use Rattle.std.proofs.Common.{◌≡◌, ◌≢◌, ℕ, suc, ◌≤◌, false, List, [], ◌∷◌, ◌++◌, refl, sym, ap, ◌∙◌, arith, append_assoc, map, length, ◌+◌, ◌-◌, take, drop, length-append}
+use Rattle.std.proofs.Common.{◌≡◌, ◌≢◌, ℕ, suc, ◌≤◌, Bool, false, List, [], ◌∷◌, ◌++◌, refl, sym, ap, ◌∙◌, arith, append_assoc, map, length, ◌+◌, ◌-◌, take, drop, length-append}
 use Rattle.std.proofs.lemmas.List.{append-nil}
 use Rattle.std.proofs.Math.Seq.{drop-append_seam, take-length}
 use Rattle.std.specs.Prelude.{ℤ, if◌then◌else◌}
 use Rattle.std.specs.declared.option.Option.TheVariants.{None, Some}
 use Rattle.text_tokens.specs.declared.token.Position.{Position}
 use Rattle.moa_tree.specs.Expected.{Want, cause_of, next, stuck}
-use Rattle.moa_tree.specs.Outcome.{is_stuck, refusal, refused_or}
+use Rattle.moa_tree.specs.Expr.{Tree}
+use Rattle.moa_tree.specs.Outcome.{Outcome, is_stuck, refusal, refused_or}
 use Rattle.moa_tree.specs.declared.tree.Numbers.{Numbers}
 use Rattle.moa_tree.specs.Pool.{list_at}
 use Rattle.moa_tree.specs.Pools.{Pools}
+use Rattle.moa_tree.specs.Positions.{begins_expression, is_statement_name}
 use Rattle.text_tokens.specs.declared.token.Sign.TheVariants as sign
 use Rattle.moa_reader.specs.declared.error.ReadError.{ReadError}
 use Rattle.moa_reader.specs.declared.error.ReadError.TheVariants as error
@@ -18,19 +20,39 @@ use Rattle.moa_tree.specs.Vocabulary.{Lexeme}
 use Rattle.moa_reader.specs.Build.{with_numbers}
 use Rattle.moa_reader.specs.Lexemes.{number_in}
 use Rattle.moa_reader.specs.Lists.{StayAtNumbers, TakesList, TakesNumbers}
-use Rattle.moa_reader.specs.Outcomes.{IsRefusedWith, Passes, outcome_along}
+use Rattle.moa_reader.specs.Outcomes.{Course, IsRefusedWith, Leads, Passes, course_behind, course_of, outcome_along}
 use Rattle.moa_reader.specs.Sources.{Ahead, Placed, Takes, all, left}
 
--- a lexeme that is not refused is passed over
-pub passes_one : (wants : List Want) (lexeme : Lexeme) (at : Position) (others : Placed) → refusal wants lexeme ≡ None
-    → Passes wants ((lexeme, at) ∷ others) (next wants lexeme) others
-passes_one wants lexeme at others e tree = ap (λ found. refused_or found at (outcome_along tree (next wants lexeme) others)) e
+abbrev pub course_with : Outcome → List Position → List Position → Course
+course_with outcome expressions names = record { outcome = outcome; expressions = expressions; names = names }
 
-passes_number : (wants : List Want) → StayAtNumbers wants → (value : ℤ) (at : Position) (others : Placed)
-    → Passes wants ((Lexeme.Number value, at) ∷ others) wants others
-passes_number wants stay value at others tree =
-    passes_one wants (Lexeme.Number value) at others (stay value).0 tree
-    ∙ ap (λ those. outcome_along tree those others) (stay value).1
+abbrev pub if_here : Bool → Position → List Position
+if_here test at = if test then at ∷ [] else []
+
+-- a lexeme that is not refused is passed over
+pub leads_one : (wants : List Want) (lexeme : Lexeme) (at : Position) (others : Placed) (expression name : Bool) → refusal wants lexeme ≡ None
+    → begins_expression wants lexeme ≡ expression → is_statement_name wants lexeme ≡ name
+    → Leads (if_here expression at) (if_here name at) wants ((lexeme, at) ∷ others) (next wants lexeme) others
+leads_one wants lexeme at others expression name e f g tree =
+    let rest = course_of tree (next wants lexeme) others in
+    let found = if_here (begins_expression wants lexeme) at ++ rest.expressions in
+    let named = if_here (is_statement_name wants lexeme) at ++ rest.names in
+    ap (λ why. course_with (refused_or why at rest.outcome) found named) e
+    ∙ ap (λ test. course_with rest.outcome (if_here test at ++ rest.expressions) named) f
+    ∙ ap (λ test. course_with rest.outcome (if_here expression at ++ rest.expressions) (if_here test at ++ rest.names)) g
+
+-- what leads on leads on from where something else led
+pub leads_on : (a b c d : List Position) (first second third : List Want) (old middle new : Placed) → Leads a b first old second middle
+    → Leads c d second middle third new → Leads (a ++ c) (b ++ d) first old third new
+leads_on a b c d first second third old middle new h k tree =
+    let rest = course_of tree third new in
+    h tree ∙ ap (course_behind a b) (k tree)
+    ∙ ap (λ places. course_with rest.outcome places (b ++ (d ++ rest.names))) (sym (append_assoc a c rest.expressions))
+    ∙ ap (λ places. course_with rest.outcome ((a ++ c) ++ rest.expressions) places) (sym (append_assoc b d rest.names))
+
+-- the same positions, written otherwise
+pub leads_by : (a b : List Position) (wants others : List Want) (old new : Placed) → a ≡ b → Leads a [] wants old others new → Leads b [] wants old others new
+leads_by a b wants others old new e h tree = h tree ∙ ap (λ places. course_behind places [] (course_of tree others new)) e
 
 -- what is left behind a lexeme, and that it was left
 pub takes_left : (old new : Ahead) (lexeme : Lexeme) → Takes old lexeme new → left old ≡ lexeme ∷ left new
@@ -43,9 +65,14 @@ takes_one old new lexeme h = omega (arith, ap length h)
 pub takes : (old new : Ahead) (lexeme : Lexeme) → old.lexeme ≡ lexeme → all new ≡ old.behind → Takes old lexeme new
 takes old new lexeme e f = ap (λ first. (first, old.at) ∷ old.behind) e ∙ ap (λ others. (lexeme, old.at) ∷ others) (sym f)
 
+pub leads_taken : (wants : List Want) (old new : Ahead) (lexeme : Lexeme) (expression name : Bool) → Takes old lexeme new → refusal wants lexeme ≡ None
+    → begins_expression wants lexeme ≡ expression → is_statement_name wants lexeme ≡ name
+    → Leads (if_here expression old.at) (if_here name old.at) wants (all old) (next wants lexeme) (all new)
+leads_taken wants old new lexeme expression name h e f g tree = ap (course_of tree wants) h ∙ leads_one wants lexeme old.at (all new) expression name e f g tree
+
 pub passes_taken : (wants : List Want) (old new : Ahead) (lexeme : Lexeme) → Takes old lexeme new → refusal wants lexeme ≡ None
-    → Passes wants (all old) (next wants lexeme) (all new)
-passes_taken wants old new lexeme h e tree = ap (outcome_along tree wants) h ∙ passes_one wants lexeme old.at (all new) e tree
+    → begins_expression wants lexeme ≡ false → is_statement_name wants lexeme ≡ false → Passes wants (all old) (next wants lexeme) (all new)
+passes_taken wants old new lexeme h e f g = leads_taken wants old new lexeme false false h e f g
 
 -- From one place of a text on as from the other: the same numbers are added in all, and the same lexemes follow them.
 pub record SameNumbers (old : Ahead) (before : Pools) (new : Ahead) (behind : Pools) : Type 0 where
@@ -57,7 +84,7 @@ pub record SameNumbers (old : Ahead) (before : Pools) (new : Ahead) (behind : Po
 
 added_one : (pools : Pools) (value : ℤ) (others : List ℤ) → with_numbers pools (value ∷ others) ≡ with_numbers (with_numbers pools (value ∷ [])) others
 added_one pools value others =
-    ap (λ numbers. let p : Pools = record { nodes = pools.nodes; positions = pools.positions; numbers = numbers; statements = pools.statements } in p)
+    ap (λ numbers. record pools { numbers = numbers })
     (sym (append_assoc pools.numbers (value ∷ []) others))
 
 -- behind one number more
@@ -75,7 +102,7 @@ same_number first old new value before pools behind same e f g =
           ∙ ap (λ those. with_numbers those (extents_at (left new)).0) (sym g);
       follow = same.follow ∙ ap (λ lexemes. (extents_at lexemes).1) follows;
       passes = λ wants stay tree.
-          same.passes wants stay tree ∙ ap (outcome_along tree wants) taken ∙ passes_number wants stay value old.at (all new) tree;
+          same.passes wants stay tree ∙ ap (course_of tree wants) taken ∙ stay value old.at (all new) tree;
       statements = λ levels. same.statements levels ∙ ap (statements_in levels) follows;
       fewer = omega (arith, same.fewer, takes_one old new (Lexeme.Number value) taken);
     }
@@ -86,7 +113,7 @@ no_number_left first others e = refl
 
 added_none : (pools : Pools) → with_numbers pools [] ≡ pools
 added_none pools =
-    ap (λ numbers. let p : Pools = record { nodes = pools.nodes; positions = pools.positions; numbers = numbers; statements = pools.statements } in p)
+    ap (λ numbers. record pools { numbers = numbers })
     (append-nil pools.numbers)
 
 -- where no number follows, all of them were added
@@ -144,19 +171,23 @@ list_taken old first last new before behind list less those greater h k =
       start = h;
       end = end;
       passes = λ wants free tree.
-          passes_taken (Want.AList ∷ wants) old first (Lexeme.Sign sign.Less) less refl tree
-          ∙ those.passes (Want.Entries ∷ wants) (λ other. (refl, refl)) tree
-          ∙ passes_taken (Want.Entries ∷ wants) last new (Lexeme.Sign sign.Greater) greater (passes_close wants free) tree;
+          passes_taken (Want.AList ∷ wants) old first (Lexeme.Sign sign.Less) less refl refl refl tree
+          ∙ those.passes (Want.Entries ∷ wants) (λ value at others any. refl) tree
+          ∙ passes_taken (Want.Entries ∷ wants) last new (Lexeme.Sign sign.Greater) greater (passes_close wants free) refl refl tree;
       statements = λ levels.
           ap (statements_in levels) begins ∙ those.statements levels ∙ ap (statements_in levels) ends;
       fewer = omega (arith, takes_one old first (Lexeme.Sign sign.Less) less, those.fewer, takes_one last new (Lexeme.Sign sign.Greater) greater);
     }
 
 -- what is refused behind lexemes that pass is refused before them
+pub refused_later : (wants others : List Want) (old new : Placed) (error : ReadError)
+    → ((tree : Tree) → outcome_along tree wants old ≡ outcome_along tree others new) → IsRefusedWith others new error → IsRefusedWith wants old error
+refused_later wants others old new (error.Text at cause) same h = λ tree. same tree ∙ h tree
+refused_later wants others old new error.Memory same h = tt {0}
+
 pub refused_behind : (wants others : List Want) (old new : Placed) (error : ReadError) → Passes wants old others new
     → IsRefusedWith others new error → IsRefusedWith wants old error
-refused_behind wants others old new (error.Text at cause) passes h = λ tree. passes tree ∙ h tree
-refused_behind wants others old new error.Memory passes h = tt {0}
+refused_behind wants others old new error passes h = refused_later wants others old new error (λ tree. ap (λ course. course.outcome) (passes tree)) h
 
 entries_stuck : (lexeme : Lexeme) (wants : List Want) → number_in lexeme ≡ None → lexeme ≢ Lexeme.Sign sign.Greater
     → next (Want.Entries ∷ wants) lexeme ≡ stuck
@@ -172,8 +203,8 @@ pub list_refused : (old first last : Ahead) (before behind : Pools) (error : Rea
 list_refused old first last before behind error less those other refused wants =
     refused_behind (Want.AList ∷ wants) (Want.Entries ∷ wants) (all old) (all last) error
     (λ tree.
-    passes_taken (Want.AList ∷ wants) old first (Lexeme.Sign sign.Less) less refl tree
-    ∙ those.passes (Want.Entries ∷ wants) (λ other. (refl, refl)) tree)
+    passes_taken (Want.AList ∷ wants) old first (Lexeme.Sign sign.Less) less refl refl refl tree
+    ∙ those.passes (Want.Entries ∷ wants) (λ value at others any. refl) tree)
     (refused (Want.Entries ∷ wants) (entries_stuck last.lexeme wants those.ended other) refl)
 
 pub list_stuck : (lexeme : Lexeme) (wants : List Want) → lexeme ≢ Lexeme.Sign sign.Less → next (Want.AList ∷ wants) lexeme ≡ stuck

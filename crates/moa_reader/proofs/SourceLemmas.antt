@@ -7,8 +7,10 @@ use Rattle.text_tokens.specs.declared.token.Position.{Position}
 use Rattle.text_tokens.specs.declared.token.Token.{Token}
 use Rattle.text_tokens.specs.declared.token.Token.TheVariants as token
 use Rattle.text_tokens.specs.Tokens.{GivesNext, Remaining, following as tokens_following, remaining_tokens}
+use Rattle.moa_tree.specs.declared.tree.Version.{Version}
+use Rattle.moa_tree.specs.declared.tree.Version.TheVariants.{First}
 use Rattle.moa_tree.specs.Refusals.{is_end}
-use Rattle.moa_tree.specs.Vocabulary.{Lexeme, lexeme_of, reserved, spelling, word_among}
+use Rattle.moa_tree.specs.Vocabulary.{Lexeme, lexeme_of, reserved, spelling, version_among, version_named, word_among}
 use Rattle.moa_reader.specs.declared.words.Word.{Word}
 use Rattle.moa_reader.specs.Lexemes.{lexeme_of_word}
 use Rattle.moa_reader.specs.Sources.{following, placed}
@@ -36,27 +38,49 @@ word_is_no_end [] bytes h = refl
 word_is_no_end (first ∷ others) bytes h =
     no_end_among (bytes_eq bytes (spelling first)) first (word_among others bytes) (grind (arith, h)) (word_is_no_end others bytes (grind (arith, h)))
 
-following_no_end : (lexeme : Lexeme) (left : Remaining) → is_end lexeme ≡ false → following lexeme left ≡ placed (remaining_tokens left)
-following_no_end Lexeme.End left h = absurd (cc h)
-following_no_end lexeme left h = refl
+following_no_end : (version : Version) (lexeme : Lexeme) (left : Remaining) → is_end lexeme ≡ false
+    → following version lexeme left ≡ placed version (remaining_tokens left)
+following_no_end version Lexeme.End left h = absurd (cc h)
+following_no_end version lexeme left h = refl
 
-pub following_on : (lexeme : Lexeme) (left : Remaining) → lexeme ≢ Lexeme.End → following lexeme left ≡ placed (remaining_tokens left)
-following_on Lexeme.End left h = absurd (h refl)
-following_on lexeme left h = refl
+pub following_on : (version : Version) (lexeme : Lexeme) (left : Remaining) → lexeme ≢ Lexeme.End
+    → following version lexeme left ≡ placed version (remaining_tokens left)
+following_on version Lexeme.End left h = absurd (h refl)
+following_on version lexeme left h = refl
 
-following_token : (first : Token) (left : Remaining) → following (lexeme_of first) left ≡ placed (tokens_following first left)
-following_token (token.Word name) left = following_no_end (word_among reserved name) left (word_is_no_end reserved name refl)
-following_token token.End left = refl
-following_token token.LongWord left = refl
-following_token (token.Number value) left = refl
-following_token token.OutOfRange left = refl
-following_token (token.Sign sign) left = refl
-following_token token.Malformed left = refl
+no_ends : (version : Version) → list_any is_end (reserved version) ≡ false
+no_ends First = refl
+
+following_token : (version : Version) (first : Token) (left : Remaining)
+    → following version (lexeme_of version first) left ≡ placed version (tokens_following first left)
+following_token version (token.Word name) left =
+    following_no_end version (word_among (reserved version) name) left (word_is_no_end (reserved version) name (no_ends version))
+following_token version token.End left = refl
+following_token version token.LongWord left = refl
+following_token version (token.Number value) left = refl
+following_token version token.OutOfRange left = refl
+following_token version (token.Sign sign) left = refl
+following_token version token.Malformed left = refl
 
 -- the lexeme of the token that was given and those that follow it are all that was left
-pub next_placed : (old new : Remaining) (given : Token × Position) → GivesNext old given new → (lexeme : Lexeme) → lexeme ≡ lexeme_of given.0
-    → (lexeme, given.1) ∷ following lexeme new ≡ placed (remaining_tokens old)
-next_placed old new given gives lexeme e =
-    ap (λ other. (other, given.1) ∷ following other new) e
-    ∙ ap (λ others. (lexeme_of given.0, given.1) ∷ others) (following_token given.0 new)
-    ∙ ap placed (sym gives.next)
+pub next_placed : (version : Version) (old new : Remaining) (given : Token × Position) → GivesNext old given new
+    → (lexeme : Lexeme) → lexeme ≡ lexeme_of version given.0
+    → (lexeme, given.1) ∷ following version lexeme new ≡ placed version (remaining_tokens old)
+next_placed version old new given gives lexeme e =
+    ap (λ other. (other, given.1) ∷ following version other new) e
+    ∙ ap (λ others. (lexeme_of version given.0, given.1) ∷ others) (following_token version given.0 new)
+    ∙ ap (placed version) (sym gives.next)
+
+-- the second token that a scanner gives names the version
+pub second_names : (first middle last : Remaining) (given other : Token × Position) → GivesNext first given middle → GivesNext middle other last
+    → version_among (remaining_tokens first) ≡ version_named other.0
+second_names first middle last given other gives more = ap version_among gives.next ∙ behind given.0 refl
+  where
+    some : version_among (given ∷ remaining_tokens middle) ≡ version_named other.0
+    some = ap (λ rest. version_among (given ∷ rest)) more.next
+
+    behind : (t : Token) → given.0 ≡ t → version_among (given ∷ tokens_following t middle) ≡ version_named other.0
+    behind token.End e =
+        let same : given ≡ other = cc (sym (gives.again e) ∙ more.next) in
+        ap version_named (sym e ∙ ap (λ t. t.0) same)
+    behind _ e = some

@@ -1,15 +1,18 @@
 -- What each want takes, and what is stuck there.
 use Rattle.std.proofs.Common.{◌≡◌, ℕ, zero, suc, Bool, true, false, List, ◌∷◌, refl, sym, ap, ◌∙◌}
-use Rattle.std.specs.Prelude.{ℤ, pos, negsuc, if◌then◌else◌}
+use Rattle.std.specs.Option.{is_some}
+use Rattle.std.specs.Prelude.{ℤ, pos, if◌then◌else◌}
 use Rattle.std.specs.declared.option.Option.TheVariants.{None, Some}
 use Rattle.moa_tree.specs.declared.operator.Op.{Op}
+use Rattle.moa_tree.specs.declared.tree.Version.{Version}
+use Rattle.moa_tree.specs.declared.tree.Version.TheVariants.{First}
 use Rattle.moa_tree.specs.Expected.{Want, cause_of, next, stuck}
 use Rattle.moa_tree.specs.Refusals.{is_end}
-use Rattle.moa_tree.specs.Vocabulary.{Lexeme, is_fold}
+use Rattle.moa_tree.specs.Vocabulary.{Lexeme, is_fold, version_number, version_numbered}
 use Rattle.moa_reader.specs.declared.words.Declaration.{Declaration}
 use Rattle.moa_reader.specs.declared.words.Declaration.TheVariants as declaration
 use Rattle.moa_reader.specs.Statements.{declared_by, is_psi, word_of}
-use Rattle.moa_reader.specs.Lexemes.{fold_in, name_in, number_in, operator_in}
+use Rattle.moa_reader.specs.Lexemes.{fold_in, name_in, number_in, operator_in, version_in}
 
 pub number_taken : (lexeme : Lexeme) (value : ℤ) → number_in lexeme ≡ Some value → lexeme ≡ Lexeme.Number value
 number_taken (Lexeme.Number other) value e = cc
@@ -51,12 +54,18 @@ pub name_stuck : (lexeme : Lexeme) (wants : List Want) → name_in lexeme ≡ No
 name_stuck (Lexeme.Name other) wants e = absurd (cc e)
 name_stuck _ wants e = refl
 
-pub version_stuck : (lexeme : Lexeme) (wants : List Want) → (number_in lexeme ≡ Some (pos 1) → ⊥) → next (Want.VersionNumber ∷ wants) lexeme ≡ stuck
-version_stuck (Lexeme.Number (pos zero)) wants h = refl
-version_stuck (Lexeme.Number (pos (suc zero))) wants h = absurd (h refl)
-version_stuck (Lexeme.Number (pos (suc (suc n)))) wants h = refl
-version_stuck (Lexeme.Number (negsuc n)) wants h = refl
-version_stuck _ wants h = refl
+-- the number of a version is that of no other
+numbered_is : (value : ℤ) (version : Version) → version_numbered value ≡ Some version → value ≡ version_number version
+numbered_is (pos (suc zero)) First e = refl
+numbered_is _ version e = absurd (cc e)
+
+pub version_taken : (lexeme : Lexeme) (version : Version) → version_in lexeme ≡ Some version → lexeme ≡ Lexeme.Number (version_number version)
+version_taken (Lexeme.Number value) version e = ap Lexeme.Number (numbered_is value version e)
+version_taken _ version e = absurd (cc e)
+
+pub version_stuck : (lexeme : Lexeme) (wants : List Want) → version_in lexeme ≡ None → next (Want.VersionNumber ∷ wants) lexeme ≡ stuck
+version_stuck (Lexeme.Number value) wants e = ap (λ found. if is_some found then wants else stuck) e
+version_stuck _ wants e = refl
 
 pub word_stuck : (lexeme : Lexeme) (wants : List Want) → is_psi lexeme ≡ false → next (Want.Version ∷ wants) lexeme ≡ stuck
 word_stuck Lexeme.Psi wants h = absurd (cc h)

@@ -5,24 +5,23 @@ use Rattle.text_tokens.specs.declared.token.Position.{Position}
 use Rattle.moa_tree.specs.declared.tree.Node.{Node}
 use Rattle.moa_tree.specs.declared.tree.Numbers.{Numbers}
 use Rattle.moa_tree.specs.declared.tree.Statement.{Statement}
+use Rattle.moa_tree.specs.declared.tree.Version.{Version}
 use Rattle.moa_tree.specs.Pool.{IsOrdered, list_at, tree_at, trees, walk_of}
 use Rattle.moa_tree.specs.Pools.{AreThere, Pools, all_lists, covers, extents_of, lists_of, nodes_of, references}
 use Rattle.moa_tree.specs.Positions.{positions_at}
 
-abbrev pub no_pools : Pools
-no_pools = record { nodes = []; positions = []; numbers = []; statements = [] }
+abbrev pub no_pools : Version → Pools
+no_pools version = record { version = version; nodes = []; positions = []; numbers = []; statements = [] }
 
 abbrev pub with_node : Pools → Node → Position → Pools
 with_node pools node at =
-    record { nodes = pools.nodes ++ node ∷ []; positions = pools.positions ++ at ∷ []; numbers = pools.numbers; statements = pools.statements }
+    record pools { nodes = pools.nodes ++ node ∷ []; positions = pools.positions ++ at ∷ [] }
 
 abbrev pub with_numbers : Pools → List ℤ → Pools
-with_numbers pools values =
-    record { nodes = pools.nodes; positions = pools.positions; numbers = pools.numbers ++ values; statements = pools.statements }
+with_numbers pools values = record pools { numbers = pools.numbers ++ values }
 
 abbrev pub with_statement : Pools → Statement → Pools
-with_statement pools statement =
-    record { nodes = pools.nodes; positions = pools.positions; numbers = pools.numbers; statements = pools.statements ++ statement ∷ [] }
+with_statement pools statement = record pools { statements = pools.statements ++ statement ∷ [] }
 
 -- Pools in the making: these nodes have no use yet, and every other node has one. These lists belong to nothing yet, and each number is in one list
 -- at most.
@@ -39,6 +38,7 @@ pub record IsOpen (roots : List ℕ) (lists : List Numbers) (pools : Pools) : Ty
 
 -- what was there when nodes and numbers were added has the same trees, lists and positions
 pub record Keeps (old new : Pools) : Type 0 where
+  pub version : new.version ≡ old.version
   pub nodes_longer : length old.nodes ≤ length new.nodes
   pub numbers_longer : length old.numbers ≤ length new.numbers
   pub statements : new.statements ≡ old.statements

@@ -1,11 +1,13 @@
 -- What the forms that have begun make of the expression that is read next. This project's own.
-use Rattle.std.specs.Prelude.{ℕ, suc, List, [], ◌∷◌, length}
+use Rattle.std.specs.Prelude.{ℕ, suc, List, [], ◌∷◌, ◌++◌, length}
 use Rattle.std.specs.declared.option.Option.TheVariants.{Some}
+use Rattle.text_tokens.specs.declared.token.Position.{Position}
 use Rattle.moa_tree.specs.declared.tree.Numbers.{Numbers}
 use Rattle.moa_tree.specs.Expected.{Want}
 use Rattle.moa_tree.specs.Expr.{Expr}
-use Rattle.moa_tree.specs.Pool.{tree_at, trees}
+use Rattle.moa_tree.specs.Pool.{tree_at, trees, walk_of}
 use Rattle.moa_tree.specs.Pools.{Pools}
+use Rattle.moa_tree.specs.Positions.{positions_at}
 use Rattle.moa_tree.specs.Trees.{Found, and_then, close_at, expr_at, one_at}
 use Rattle.moa_reader.specs.declared.frames.Frame.{Frame}
 use Rattle.moa_reader.specs.declared.frames.Frame.TheVariants as frame
@@ -14,6 +16,10 @@ use Rattle.moa_reader.specs.Forms.{form_lists, one_of, two_of}
 -- the tree of a node in its pools
 abbrev pub tree_in : Pools → ℕ → Expr
 tree_in pools number = tree_at (trees pools.numbers pools.nodes) number
+
+-- the positions of a node and of those under it, in prefix order
+abbrev pub places_in : Pools → ℕ → List Position
+places_in pools number = positions_at pools.positions (walk_of pools.nodes number)
 
 -- what is found where a form has begun, once its next operand is found: operands have so many levels
 abbrev pub resume_one : Pools → ℕ → Frame → Found Expr → Found Expr
@@ -51,3 +57,15 @@ frame_lists _ = []
 abbrev pub frame_nodes : Frame → List ℕ
 frame_nodes (frame.Second form at left) = left ∷ []
 frame_nodes _ = []
+
+-- where the expressions stand that a form has so far: its own, and those of its first operand
+abbrev pub frame_places : Pools → Frame → List Position
+frame_places pools frame.Parentheses = []
+frame_places pools (frame.One form at) = at ∷ []
+frame_places pools (frame.First form at) = at ∷ []
+frame_places pools (frame.Second form at left) = at ∷ places_in pools left
+
+-- the same of forms in one another, from the outermost on
+abbrev pub places_before : Pools → List Frame → List Position
+places_before pools [] = []
+places_before pools (frame ∷ frames) = places_before pools frames ++ frame_places pools frame

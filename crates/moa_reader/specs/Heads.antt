@@ -15,7 +15,7 @@ use Rattle.moa_reader.specs.declared.frames.Frame.{Frame}
 use Rattle.moa_reader.specs.declared.heads.Head.{Head}
 use Rattle.moa_reader.specs.declared.heads.Head.TheVariants as head
 use Rattle.moa_reader.specs.Build.{with_node, with_numbers}
-use Rattle.moa_reader.specs.Frames.{frame_lists, frame_nodes, resume_one, tree_in, wants_of}
+use Rattle.moa_reader.specs.Frames.{frame_lists, frame_nodes, frame_places, resume_one, tree_in, wants_of}
 use Rattle.moa_reader.specs.Outcomes.{Passes}
 use Rattle.moa_reader.specs.Sources.{Ahead, Takes, all, left}
 
@@ -43,10 +43,14 @@ begins Lexeme.Reduce = true
 begins Lexeme.Scan = true
 begins _ = false
 
--- a node without operands and lists is added
-pub record AddsLeaf (before : Pools) (number : ℕ) (behind : Pools) : Type 0 where
+-- where an expression stands that begins with this lexeme: parentheses have no position of their own
+abbrev pub place_of : Lexeme → Position → List Position
+place_of (Lexeme.Sign sign.Open) at = []
+place_of lexeme at = at ∷ []
+
+-- a node without operands and lists is added, which stands here
+pub record AddsLeaf (before : Pools) (number : ℕ) (at : Position) (behind : Pools) : Type 0 where
   pub node : Node
-  pub at : Position
   pub added : behind ≡ with_node before node at
   pub numbered : number ≡ length before.nodes
   pub alone : operands node ≡ []
@@ -60,27 +64,29 @@ AddsList before (list ∷ []) behind =
     × (list.start + list.count ≡ length behind.numbers)
 AddsList before _ behind = ⊥
 
--- behind this lexeme, lexemes are passed over that end the expression, which is this node
-pub record ReadsWhole (first : Lexeme) (old : Ahead) (before : Pools) (number : ℕ) (new : Ahead) (behind : Pools) : Type 0 where
+-- behind this lexeme, which stands here, lexemes are passed over that end the expression, which is this node
+pub record ReadsWhole (first : Lexeme) (at : Position) (old : Ahead) (before : Pools) (number : ℕ) (new : Ahead) (behind : Pools) : Type 0 where
   pub found : (levels : ℕ) → form_at (expr_at levels) first (left old) ≡ Some (tree_in behind number, left new)
   pub passes : (depth : ℕ) (wants : List Want) → is_stuck wants ≡ false → Passes (on_expr depth wants first) (all old) wants (all new)
   pub statements : (levels : ℕ) → statements_in levels (left old) ≡ statements_in levels (left new)
-  pub adds : AddsLeaf before number behind
+  pub stands : place_of first at ≡ at ∷ []
+  pub adds : AddsLeaf before number at behind
   pub fewer : length new.behind ≤ length old.behind
 
--- behind this lexeme, lexemes are passed over up to the first operand of this form
-pub record ReadsFrame (first : Lexeme) (old : Ahead) (before : Pools) (frame : Frame) (new : Ahead) (behind : Pools) : Type 0 where
+-- behind this lexeme, which stands here, lexemes are passed over up to the first operand of this form
+pub record ReadsFrame (first : Lexeme) (at : Position) (old : Ahead) (before : Pools) (frame : Frame) (new : Ahead) (behind : Pools) : Type 0 where
   pub found : (levels : ℕ) → form_at (expr_at levels) first (left old) ≡ resume_one behind levels frame (expr_at levels (left new))
   pub passes : (depth : ℕ) (wants : List Want) → is_stuck wants ≡ false
       → Passes (on_expr depth wants first) (all old) (Want.AnExpr (suc depth) ∷ wants_of (suc depth) frame wants) (all new)
   pub statements : (levels : ℕ) → statements_in levels (left old) ≡ statements_in levels (left new)
+  pub stands : place_of first at ≡ frame_places behind frame
   pub adds : AddsList before (frame_lists frame) behind
   pub fresh : frame_nodes frame ≡ []
   pub fewer : length new.behind ≤ length old.behind
 
-abbrev pub ReadsHead : Lexeme → Ahead → Pools → Head → Ahead → Pools → Type 0
-ReadsHead first old before (head.Whole number) new behind = ReadsWhole first old before number new behind
-ReadsHead first old before (head.Begun frame) new behind = ReadsFrame first old before frame new behind
+abbrev pub ReadsHead : Lexeme → Position → Ahead → Pools → Head → Ahead → Pools → Type 0
+ReadsHead first at old before (head.Whole number) new behind = ReadsWhole first at old before number new behind
+ReadsHead first at old before (head.Begun frame) new behind = ReadsFrame first at old before frame new behind
 
 -- an expression begins here, with this lexeme
 pub record Begins (old : Ahead) (before : Pools) (head : Head) (new : Ahead) (behind : Pools) : Type 0 where
@@ -88,4 +94,4 @@ pub record Begins (old : Ahead) (before : Pools) (head : Head) (new : Ahead) (be
   pub middle : Ahead
   pub taken : Takes old first middle
   pub may_begin : begins first ≡ true
-  pub reads : ReadsHead first middle before head new behind
+  pub reads : ReadsHead first old.at middle before head new behind

@@ -3,7 +3,8 @@ use Rattle.std.specs.Prelude.{ℕ, ℤ, List, if◌then◌else◌}
 use Rattle.std.specs.declared.option.Option.{Option}
 use Rattle.std.specs.declared.option.Option.TheVariants.{None, Some}
 use Rattle.moa_tree.specs.declared.operator.Op.{Op}
-use Rattle.moa_tree.specs.Vocabulary.{Lexeme, is_fold}
+use Rattle.moa_tree.specs.declared.tree.Version.{Version}
+use Rattle.moa_tree.specs.Vocabulary.{Lexeme, is_fold, version_numbered}
 use Rattle.moa_reader.specs.declared.words.Lexeme.{Lexeme as Found}
 use Rattle.moa_reader.specs.declared.words.Lexeme.TheVariants as found
 use Rattle.moa_reader.specs.declared.words.Word.{Word}
@@ -46,10 +47,14 @@ lexeme_read found.Malformed = Lexeme.Malformed
 lexeme_read found.OutOfRange = Lexeme.OutOfRange
 lexeme_read found.LongWord = Lexeme.LongWord
 
--- the number, the name or the binary operator that a lexeme is, if it is one
+-- the number, the version, the name or the binary operator that a lexeme is, if it is one
 abbrev pub number_in : Lexeme → Option ℤ
 number_in (Lexeme.Number value) = Some value
 number_in _ = None
+
+abbrev pub version_in : Lexeme → Option Version
+version_in (Lexeme.Number value) = version_numbered value
+version_in _ = None
 
 abbrev pub name_in : Lexeme → Option (List ℕ)
 name_in (Lexeme.Name name) = Some name

@@ -1,8 +1,9 @@
 -- Numbers that are read into the pool. This project's own.
 use Rattle.std.specs.Prelude.{◌≡◌, ℕ, ℤ, ◌+◌, ◌≤◌, false, List, ◌∷◌, length}
 use Rattle.std.specs.declared.option.Option.TheVariants.{None, Some}
-use Rattle.moa_tree.specs.Expected.{Want, next}
-use Rattle.moa_tree.specs.Outcome.{is_stuck, refusal}
+use Rattle.text_tokens.specs.declared.token.Position.{Position}
+use Rattle.moa_tree.specs.Expected.{Want}
+use Rattle.moa_tree.specs.Outcome.{is_stuck}
 use Rattle.moa_tree.specs.declared.tree.Numbers.{Numbers}
 use Rattle.moa_tree.specs.Pool.{list_at}
 use Rattle.moa_tree.specs.Pools.{Pools}
@@ -11,11 +12,11 @@ use Rattle.moa_tree.specs.Vocabulary.{Lexeme}
 use Rattle.moa_reader.specs.Build.{with_numbers}
 use Rattle.moa_reader.specs.Lexemes.{number_in}
 use Rattle.moa_reader.specs.Outcomes.{Passes}
-use Rattle.moa_reader.specs.Sources.{Ahead, all, left}
+use Rattle.moa_reader.specs.Sources.{Ahead, Placed, all, left}
 
 -- these are wanted behind a number too
 abbrev pub StayAtNumbers : List Want → Type 0
-StayAtNumbers wants = (value : ℤ) → (refusal wants (Lexeme.Number value) ≡ None) × (next wants (Lexeme.Number value) ≡ wants)
+StayAtNumbers wants = (value : ℤ) (at : Position) (others : Placed) → Passes wants ((Lexeme.Number value, at) ∷ others) wants others
 
 -- all numbers that come next are passed over and added
 pub record TakesNumbers (old : Ahead) (before : Pools) (new : Ahead) (behind : Pools) : Type 0 where

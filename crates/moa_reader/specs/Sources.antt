@@ -3,14 +3,15 @@ use Rattle.std.specs.Prelude.{◌≡◌, List, [], ◌∷◌, map}
 use Rattle.text_tokens.specs.declared.token.Position.{Position}
 use Rattle.text_tokens.specs.declared.token.Token.{Token}
 use Rattle.text_tokens.specs.Tokens.{Remaining, remaining_tokens}
+use Rattle.moa_tree.specs.declared.tree.Version.{Version}
 use Rattle.moa_tree.specs.Vocabulary.{Lexeme, lexeme_of}
 
 abbrev pub Placed : Type 0
 Placed = List (Lexeme × Position)
 
--- the lexemes of some tokens, with their positions
-abbrev pub placed : List (Token × Position) → Placed
-placed tokens = map (λ token. (lexeme_of token.0, token.1)) tokens
+-- what some tokens are to a version, with their positions
+abbrev pub placed : Version → List (Token × Position) → Placed
+placed version tokens = map (λ token. (lexeme_of version token.0, token.1)) tokens
 
 -- the lexeme that comes next, where it stands, and those behind it
 pub record Ahead : Type 0 where
@@ -31,6 +32,6 @@ abbrev pub Takes : Ahead → Lexeme → Ahead → Type 0
 Takes old lexeme new = all old ≡ (lexeme, old.at) ∷ all new
 
 -- those that follow a lexeme: none follows the end
-abbrev pub following : Lexeme → Remaining → Placed
-following Lexeme.End left = []
-following _ left = placed (remaining_tokens left)
+abbrev pub following : Version → Lexeme → Remaining → Placed
+following version Lexeme.End left = []
+following version _ left = placed version (remaining_tokens left)

@@ -1,5 +1,5 @@
 -- Where an expression that is being read stands. This project's own.
-use Rattle.std.specs.Prelude.{◌≡◌, ℕ, ◌+◌, false, List, ◌∷◌, length}
+use Rattle.std.specs.Prelude.{◌≡◌, ℕ, ◌+◌, false, List, [], ◌∷◌, ◌++◌, length}
 use Rattle.std.specs.List.{flat_map}
 use Rattle.std.specs.declared.option.Option.TheVariants.{Some}
 use Rattle.moa_tree.specs.Expected.{Want}
@@ -11,8 +11,8 @@ use Rattle.moa_reader.specs.declared.frames.Frame.{Frame}
 use Rattle.moa_reader.specs.declared.heads.Head.{Head}
 use Rattle.moa_reader.specs.declared.heads.Head.TheVariants as head
 use Rattle.moa_reader.specs.Build.{IsOpen, Keeps}
-use Rattle.moa_reader.specs.Frames.{depth_in, frame_lists, frame_nodes, resume, tree_in, wants_behind}
-use Rattle.moa_reader.specs.Outcomes.{Passes}
+use Rattle.moa_reader.specs.Frames.{depth_in, frame_lists, frame_nodes, places_before, places_in, resume, tree_in, wants_behind}
+use Rattle.moa_reader.specs.Outcomes.{Leads}
 use Rattle.moa_reader.specs.Sources.{Ahead, all, left}
 
 -- An expression began at the first place of a text, with pools before it. These forms have begun in it, and the next operand is wanted here.
@@ -22,7 +22,7 @@ pub record IsWanted (first : Ahead) (before : Pools) (frames : List Frame) (here
   pub deep : levels + length frames ≡ deepest
   pub found : expr_at deepest (left first) ≡ resume pools levels frames (expr_at levels (left here))
   pub passes : (wants : List Want) → is_stuck wants ≡ false
-      → Passes (Want.AnExpr 1 ∷ wants) (all first) (Want.AnExpr (depth_in frames) ∷ wants_behind frames wants) (all here)
+      → Leads (places_before pools frames) [] (Want.AnExpr 1 ∷ wants) (all first) (Want.AnExpr (depth_in frames) ∷ wants_behind frames wants) (all here)
   pub statements : (many : ℕ) → statements_in many (left first) ≡ statements_in many (left here)
   pub made : IsOpen (flat_map frame_nodes frames) (flat_map frame_lists frames) pools
   pub keeps : Keeps before pools
@@ -32,7 +32,8 @@ pub record IsRead (first : Ahead) (before : Pools) (frames : List Frame) (number
   pub levels : ℕ
   pub deep : levels + length frames ≡ deepest
   pub found : expr_at deepest (left first) ≡ resume pools levels frames (Some (tree_in pools number, left here))
-  pub passes : (wants : List Want) → is_stuck wants ≡ false → Passes (Want.AnExpr 1 ∷ wants) (all first) (wants_behind frames wants) (all here)
+  pub passes : (wants : List Want) → is_stuck wants ≡ false
+      → Leads (places_before pools frames ++ places_in pools number) [] (Want.AnExpr 1 ∷ wants) (all first) (wants_behind frames wants) (all here)
   pub statements : (many : ℕ) → statements_in many (left first) ≡ statements_in many (left here)
   pub made : IsOpen (number ∷ flat_map frame_nodes frames) (flat_map frame_lists frames) pools
   pub keeps : Keeps before pools

@@ -60,7 +60,7 @@ fn rest(
     at: Position,
 ) -> Result<Head, ReadError>
     requires { begins (lexeme_read lexeme) ≡ true }
-    ensures head { IfOk result (λ head. ReadsHead (lexeme_read lexeme) source.old builder.old head source.new builder.new) }
+    ensures head { IfOk result (λ head. ReadsHead (lexeme_read lexeme) at source.old builder.old head source.new builder.new) }
     ensures refused { IfErr result (λ error. (depth : ℕ) (wants : List Want) → is_stuck wants ≡ false
         → IsRefusedWith (on_expr depth wants (lexeme_read lexeme)) (all source.old) error) }
 {
@@ -80,7 +80,7 @@ fn form(
     at: Position,
 ) -> Result<Head, ReadError>
     requires { begins (lexeme_of_word word) ≡ true }
-    ensures head { IfOk result (λ head. ReadsHead (lexeme_of_word word) source.old builder.old head source.new builder.new) }
+    ensures head { IfOk result (λ head. ReadsHead (lexeme_of_word word) at source.old builder.old head source.new builder.new) }
     ensures refused { IfErr result (λ error. (depth : ℕ) (wants : List Want) → is_stuck wants ≡ false
         → IsRefusedWith (on_expr depth wants (lexeme_of_word word)) (all source.old) error) }
 {
@@ -113,7 +113,7 @@ fn listed(
     form: ListForm,
     at: Position,
 ) -> Result<Head, ReadError>
-    ensures head { IfOk result (λ head. ReadsHead (lexeme_of_list form) source.old builder.old head source.new builder.new) }
+    ensures head { IfOk result (λ head. ReadsHead (lexeme_of_list form) at source.old builder.old head source.new builder.new) }
     ensures refused { IfErr result (λ error. (depth : ℕ) (wants : List Want) → is_stuck wants ≡ false
         → IsRefusedWith (on_expr depth wants (lexeme_of_list form)) (all source.old) error) }
 {
@@ -123,7 +123,7 @@ fn listed(
 
 #[tactic(auto, using(crate::proofs::HeadLemmas::folded_begins, crate::proofs::HeadLemmas::folded_refused))]
 fn folded(source: &mut Source<'_>, form: FoldForm, at: Position) -> Result<Head, ReadError>
-    ensures head { IfOk result (λ head. (pools : Pools) → ReadsHead (lexeme_of_fold form) source.old pools head source.new pools) }
+    ensures head { IfOk result (λ head. (pools : Pools) → ReadsHead (lexeme_of_fold form) at source.old pools head source.new pools) }
     ensures refused { IfErr result (λ error. (depth : ℕ) (wants : List Want) → is_stuck wants ≡ false
         → IsRefusedWith (on_expr depth wants (lexeme_of_fold form)) (all source.old) error) }
 {
@@ -133,7 +133,7 @@ fn folded(source: &mut Source<'_>, form: FoldForm, at: Position) -> Result<Head,
 
 #[tactic(auto, using(crate::proofs::HeadLemmas::iota_read))]
 fn iota(source: &mut Source<'_>, builder: &mut Builder, at: Position) -> Result<Head, ReadError>
-    ensures head { IfOk result (λ head. ReadsHead Terminal.Iota source.old builder.old head source.new builder.new) }
+    ensures head { IfOk result (λ head. ReadsHead Terminal.Iota at source.old builder.old head source.new builder.new) }
     ensures refused { IfErr result (λ error. (depth : ℕ) (wants : List Want) → is_stuck wants ≡ false
         → IsRefusedWith (on_expr depth wants Terminal.Iota) (all source.old) error) }
 {
@@ -144,7 +144,7 @@ fn iota(source: &mut Source<'_>, builder: &mut Builder, at: Position) -> Result<
 
 #[tactic(auto, using(crate::proofs::HeadLemmas::rotate_begins))]
 fn rotate(source: &mut Source<'_>, at: Position) -> Result<Head, ReadError>
-    ensures head { IfOk result (λ head. (pools : Pools) → ReadsHead Terminal.Rotate source.old pools head source.new pools) }
+    ensures head { IfOk result (λ head. (pools : Pools) → ReadsHead Terminal.Rotate at source.old pools head source.new pools) }
     ensures refused { IfErr result (λ error. (depth : ℕ) (wants : List Want) → is_stuck wants ≡ false
         → IsRefusedWith (on_expr depth wants Terminal.Rotate) (all source.old) error) }
 {
@@ -154,7 +154,7 @@ fn rotate(source: &mut Source<'_>, at: Position) -> Result<Head, ReadError>
 
 #[tactic(auto, using(crate::proofs::HeadLemmas::outer_begins))]
 fn outer(source: &mut Source<'_>, at: Position) -> Result<Head, ReadError>
-    ensures head { IfOk result (λ head. (pools : Pools) → ReadsHead Terminal.Outer source.old pools head source.new pools) }
+    ensures head { IfOk result (λ head. (pools : Pools) → ReadsHead Terminal.Outer at source.old pools head source.new pools) }
     ensures refused { IfErr result (λ error. (depth : ℕ) (wants : List Want) → is_stuck wants ≡ false
         → IsRefusedWith (on_expr depth wants Terminal.Outer) (all source.old) error) }
 {
@@ -164,7 +164,7 @@ fn outer(source: &mut Source<'_>, at: Position) -> Result<Head, ReadError>
 
 #[tactic(auto, using(crate::proofs::HeadLemmas::inner_begins))]
 fn inner(source: &mut Source<'_>, at: Position) -> Result<Head, ReadError>
-    ensures head { IfOk result (λ head. (pools : Pools) → ReadsHead Terminal.Inner source.old pools head source.new pools) }
+    ensures head { IfOk result (λ head. (pools : Pools) → ReadsHead Terminal.Inner at source.old pools head source.new pools) }
     ensures refused { IfErr result (λ error. (depth : ℕ) (wants : List Want) → is_stuck wants ≡ false
         → IsRefusedWith (on_expr depth wants Terminal.Inner) (all source.old) error) }
 {

@@ -1,5 +1,5 @@
-// Reads source text and writes it: exactly the programs of the language, each with its positions, or the one
-// position and cause for which a text is refused.
+// Reads source text and writes it: exactly the programs of the language, with where each expression and each
+// statement's name stands in the text, or the one position and cause for which a text is refused.
 #![tactic(auto)]
 
 mod error;

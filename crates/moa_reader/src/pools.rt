@@ -7,7 +7,7 @@ ghost use Rattle.moa_tree.specs.Readings.{Reads};
 ghost use Rattle.moa_reader.specs.Build.{IsOpen, no_pools, with_node, with_numbers, with_statement};
 ghost use Rattle.moa_reader.specs.Frames.{tree_in};
 
-use moa_tree::{Node, Numbers, Program, Statement, what_is_added};
+use moa_tree::{Node, Numbers, Program, Statement, Version, what_is_added};
 use shapes_core::NoMemory;
 use std::alloc::Global;
 use std::marker::Model;
@@ -16,9 +16,10 @@ use text_tokens::Position;
 /// The greatest number of items in a pool.
 const MOST: usize = 1 << 30;
 
-/// The nodes, numbers and statements that were read so far.
+/// The version of a program, and the nodes, numbers and statements that were read so far.
 #[derive(Drop)]
 pub(crate) struct Builder {
+    version: Version,
     nodes: Vec<Node>,
     positions: Vec<Position>,
     numbers: Vec<i64>,
@@ -31,16 +32,17 @@ impl Model for Builder {
 
     ghost Value = { Pools };
 
-    ghost view = { λ b. record { nodes = b.nodes.items; positions = b.positions.items; numbers = b.numbers.items; statements = b.statements.items } };
+    ghost view = { λ b. record { version = b.version; nodes = b.nodes.items; positions = b.positions.items; numbers = b.numbers.items; statements = b.statements.items } };
 
     ghost invariant = { λ b. (length b.nodes.items ≤ 2 ^ 30) × (length b.numbers.items ≤ 2 ^ 30) × (length b.statements.items ≤ 2 ^ 30) };
 }
 
 impl Builder {
-    pub(crate) fn new(alloc: Global) -> Builder
-        ensures { result ≡ no_pools }
+    pub(crate) fn new(alloc: Global, version: Version) -> Builder
+        ensures { result ≡ no_pools version }
     {
         Builder {
+            version,
             nodes: Vec::new(alloc),
             positions: Vec::new(alloc),
             numbers: Vec::new(alloc),
@@ -113,6 +115,12 @@ impl Builder {
         requires reads { Reads (canonical (tree_of self)) (tree_of self) }
         ensures { result ≡ self }
     {
-        Program::new(self.nodes, self.positions, self.numbers, self.statements)
+        Program::new(
+            self.version,
+            self.nodes,
+            self.positions,
+            self.numbers,
+            self.statements,
+        )
     }
 }

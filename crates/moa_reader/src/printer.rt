@@ -17,9 +17,6 @@ use moa_tree::{Node, Numbers, Op, Program, Statement, node_trees, parts_are_ther
 use shapes_core::{Name, NoMemory};
 use std::alloc::Global;
 
-/// The version of the language.
-const VERSION: i64 = 1;
-
 /// The canonical text of the program: the version, and then one line a statement, without parentheses.
 pub fn print(alloc: Global, program: &Program) -> Result<Vec<u8>, NoMemory>
     ensures canonical { IfOk result (λ text. text.items ≡ canonical (tree_of program.now)) }
@@ -28,7 +25,7 @@ pub fn print(alloc: Global, program: &Program) -> Result<Vec<u8>, NoMemory>
     parts_are_there();
     let mut out = Vec::new(alloc);
     append(&mut out, Word::Psi.spelling())?;
-    print_number(&mut out, VERSION)?;
+    print_number(&mut out, program.version().number())?;
     append(&mut out, b"\n")?;
     let mut waiting = Vec::new(alloc);
     for statement in program.statements() {

@@ -1,23 +1,25 @@
 // The program of a text.
-ghost use Rattle.std.specs.Prelude.{◌≡◌, ◌≤◌, ◌≢◌, ℕ, Err, IfErr, IfOk, length, map, slice_get};
+ghost use Rattle.std.specs.Prelude.{◌≡◌, ◌<◌, ◌≤◌, ◌≢◌, ℕ, Err, IfErr, IfOk, length};
 ghost use Rattle.text_tokens.specs.declared.token.Position.{Position};
 ghost use Rattle.moa_tree.specs.Expr.{Tree};
 ghost use Rattle.moa_tree.specs.Pools.{tree_of};
-ghost use Rattle.moa_tree.specs.Positions.{name_positions, position_of};
+ghost use Rattle.moa_tree.specs.Positions.{StandsIn};
 ghost use Rattle.moa_tree.specs.Readings.{Reads};
 ghost use Rattle.moa_tree.specs.Refusals.{IsRefused};
+ghost use Rattle.moa_tree.specs.Vocabulary.{version_named, version_of};
 ghost use Rattle.moa_reader.specs.Outcomes.{Explains};
 
 use crate::error::ReadError;
 use crate::pools::Builder;
 use crate::source::Source;
-use crate::statements::{statements, version};
-use moa_tree::{Program, never_both, one_reading, one_refusal, outcomes, reads_again};
+use crate::statements::{statements, version_line};
+use moa_tree::{Program, Version, never_both, one_reading, one_refusal, outcomes, reads_again};
 use std::alloc::Global;
+use text_tokens::{Scanner, Token};
 
 /// The program that the text is, or the one position and cause for which it is refused. A text that has a reading
-/// is never refused, and one that is refused never read: only memory may be wanting. The first statement stands where
-/// the first name of the text does.
+/// is never refused, and one that is refused never read: only memory may be wanting. Each node of the program has the
+/// position of the word or the number with which its expression begins in the text, and each statement that of its name.
 pub fn read(alloc: Global, text: &[u8]) -> Result<Program, ReadError>
     requires { length text.now ≤ 1048576 }
     ensures read { IfOk result (λ program. Reads text.now (tree_of program)) }
@@ -27,7 +29,7 @@ pub fn read(alloc: Global, text: &[u8]) -> Result<Program, ReadError>
     ensures refusal { (at other : Position) (cause why : ℕ) → IsRefused text.now at cause → result ≡ Err (ReadError.Text other why)
         → (other ≡ at) × (why ≡ cause) }
     ensures never_read { (at : Position) (cause : ℕ) → IsRefused text.now at cause → IfOk result (λ program. ⊥) }
-    ensures first { IfOk result (λ program. slice_get (map position_of program.statements) 0 ≡ slice_get (name_positions text.now) 0) }
+    ensures placed { IfOk result (λ program. StandsIn text.now program) }
 {
     one_reading();
     one_refusal();
@@ -38,14 +40,36 @@ pub fn read(alloc: Global, text: &[u8]) -> Result<Program, ReadError>
 fn read_once(alloc: Global, text: &[u8]) -> Result<Program, ReadError>
     requires { length text.now ≤ 1048576 }
     ensures read { IfOk result (λ program. Reads text.now (tree_of program)) }
-    ensures first { IfOk result (λ program. slice_get (map position_of program.statements) 0 ≡ slice_get (name_positions text.now) 0) }
+    ensures placed { IfOk result (λ program. StandsIn text.now program) }
     ensures refused { IfErr result (λ error. Explains text.now error) }
 {
     outcomes();
     reads_again();
-    let mut source = Source::new(text);
-    let mut builder = Builder::new(alloc);
-    version(&mut source)?;
+    let version = version_of(text);
+    let mut source = Source::new(version, text);
+    let mut builder = Builder::new(alloc, version);
+    version_line(&mut source)?;
     statements(alloc, &mut source, &mut builder)?;
     Ok(builder.finish())
+}
+
+/// The version of the text, which its second token names.
+fn version_of(text: &[u8]) -> Version
+    requires { length text.now < 4294967295 }
+    ensures { result ≡ version_of text.now }
+{
+    let mut scanner = Scanner::new(text);
+    let _first = scanner.next_token();
+    let (second, _) = scanner.next_token();
+    version_named(second)
+}
+
+/// The version of which the token is the number, and the first where it is that of none.
+fn version_named(token: Token) -> Version
+    ensures { result ≡ version_named token }
+{
+    match token {
+        Token::Number(value) => Version::numbered(value).unwrap_or(Version::First),
+        _ => Version::First,
+    }
 }

@@ -10,12 +10,14 @@ ghost use Rattle.moa_reader.specs.Sources.{Takes, all, placed};
 
 use crate::error::ReadError;
 use crate::words::Lexeme;
+use moa_tree::Version;
 use std::marker::Model;
 use text_tokens::{Position, Scanner, Sign};
 
-/// The lexemes of a text that are not read yet, of which the first is known.
+/// The lexemes of a text that are not read yet, by the words of a version, of which the first is known.
 #[derive(Drop)]
 pub(crate) struct Source<'a> {
+    version: Version,
     scanner: Scanner<'a>,
     lexeme: Lexeme,
     at: Position,
@@ -27,19 +29,20 @@ impl<'a> Model for Source<'a> {
 
     ghost Value = { Ahead };
 
-    ghost view = { λ s. record { lexeme = lexeme_read s.lexeme; at = s.at; behind = following (lexeme_read s.lexeme) s.scanner } };
+    ghost view = { λ s. record { lexeme = lexeme_read s.lexeme; at = s.at; behind = following s.version (lexeme_read s.lexeme) s.scanner } };
 }
 
 impl<'a> Source<'a> {
-    pub(crate) fn new(text: &'a [u8]) -> Source<'a>
+    pub(crate) fn new(version: Version, text: &'a [u8]) -> Source<'a>
         requires { length text.now < 4294967295 }
-        ensures { all result ≡ placed (tokens start text.now) }
+        ensures { all result ≡ placed version (tokens start text.now) }
     {
         let mut scanner = Scanner::new(text);
         let (token, at) = scanner.next_token();
         Source {
+            version,
             scanner,
-            lexeme: Lexeme::of(token),
+            lexeme: Lexeme::of(version, token),
             at,
         }
     }
@@ -72,7 +75,7 @@ impl<'a> Source<'a> {
         ensures { all self.new ≡ self.old.behind }
     {
         let (token, at) = self.scanner.next_token();
-        self.lexeme = Lexeme::of(token);
+        self.lexeme = Lexeme::of(self.version, token);
         self.at = at;
     }
 

@@ -1,9 +1,9 @@
 // The statements of a text.
-ghost use Rattle.std.specs.Prelude.{◌≡◌, ◌≢◌, ◌≤◌, ◌<◌, ℕ, Bool, List, [], ◌∷◌, length, IfErr, IfOk, OnOk, None, false, true, pos};
+ghost use Rattle.std.specs.Prelude.{◌≡◌, ◌≢◌, ◌≤◌, ◌<◌, ℕ, Bool, List, [], ◌∷◌, length, IfErr, IfOk, OnOk, None, false, true};
 ghost use Rattle.moa_tree.specs.Expected.{Want, on_items, at_start};
 ghost use Rattle.moa_tree.specs.Outcome.{is_stuck};
 ghost use Rattle.moa_tree.specs.Refusals.{is_end};
-ghost use Rattle.moa_tree.specs.Vocabulary.{Lexeme as Terminal};
+ghost use Rattle.moa_tree.specs.Vocabulary.{Lexeme as Terminal, version_number as number_of};
 ghost use Rattle.moa_reader.specs.Build.{IsOpen};
 ghost use Rattle.moa_reader.specs.Outcomes.{IsRefusedWith};
 ghost use Rattle.moa_reader.specs.Sources.{Takes, all};
@@ -16,13 +16,13 @@ use crate::lists::numbers;
 use crate::pools::Builder;
 use crate::source::Source;
 use crate::words::Declaration;
-use moa_tree::Statement;
+use moa_tree::{Statement, Version};
 use shapes_core::Name;
 use std::alloc::Global;
 use text_tokens::{Position, Sign};
 
-/// Passes over `psi 1`.
-pub(crate) fn version(source: &mut Source<'_>) -> Result<(), ReadError>
+/// Passes over `psi` and the number of a version.
+pub(crate) fn version_line(source: &mut Source<'_>) -> Result<(), ReadError>
     ensures read { OnOk result (ReadsVersion source.old source.new) }
     ensures refused { IfErr result (λ error. IsRefusedWith at_start (all source.old) error) }
 {
@@ -30,21 +30,20 @@ pub(crate) fn version(source: &mut Source<'_>) -> Result<(), ReadError>
         return Err(source.refusal(4));
     }
     source.advance();
-    version_number(source)
+    version_number(source)?;
+    Ok(())
 }
 
-#[tactic(auto, using(crate::proofs::WantLemmas::number_taken, crate::proofs::WantLemmas::version_stuck))]
-fn version_number(source: &mut Source<'_>) -> Result<(), ReadError>
-    ensures taken { OnOk result (Takes source.old (Terminal.Number (pos 1)) source.new) }
+#[tactic(auto, using(crate::proofs::WantLemmas::version_taken, crate::proofs::WantLemmas::version_stuck))]
+fn version_number(source: &mut Source<'_>) -> Result<Version, ReadError>
+    ensures taken { IfOk result (λ version. Takes source.old (Terminal.Number (number_of version)) source.new) }
     ensures refused { IfErr result (λ error. (wants : List Want) → IsRefusedWith (Want.VersionNumber ∷ wants) (all source.old) error) }
 {
-    match source.lexeme().number() {
-        Some(1) => {
-            source.advance();
-            Ok(())
-        }
-        _ => Err(source.refusal(4)),
-    }
+    let Some(version) = source.lexeme().version() else {
+        return Err(source.refusal(4));
+    };
+    source.advance();
+    Ok(version)
 }
 
 /// The name that is wanted next.

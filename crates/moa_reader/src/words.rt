@@ -2,11 +2,11 @@
 ghost use Rattle.std.specs.Prelude.{◌≡◌, ◌↔◌, IsTrue, map};
 ghost use Rattle.moa_tree.specs.Vocabulary.{Lexeme as Terminal, is_fold, lexeme_of, op_word, reserved, spelling, unary_word, word_among};
 ghost use Rattle.moa_reader.specs.Heads.{begins};
-ghost use Rattle.moa_reader.specs.Lexemes.{lexeme_of_word, lexeme_or_name, fold_in, lexeme_read, name_in, number_in, operator_in};
+ghost use Rattle.moa_reader.specs.Lexemes.{lexeme_of_word, lexeme_or_name, fold_in, lexeme_read, name_in, number_in, operator_in, version_in};
 ghost use Rattle.moa_reader.specs.Statements.{declared_by, is_psi, seen_behind};
 ghost use Rattle.moa_tree.specs.Refusals.{is_end};
 
-use moa_tree::{Op, Unary, identity};
+use moa_tree::{Op, Unary, Version, identity};
 use shapes_core::Name;
 use text_tokens::{Sign, Token};
 
@@ -102,11 +102,20 @@ impl Word {
         }
     }
 
-    /// The word that is spelled so, or `None` where the bytes spell no reserved word.
-    pub(crate) fn from_spelling(bytes: &[u8]) -> Option<Word>
-        ensures { word_among reserved bytes.now ≡ lexeme_or_name result bytes.now }
+    /// The words that the version reserves.
+    fn reserved(version: Version) -> &'static [Word]
+        ensures { map lexeme_of_word result.now ≡ reserved version }
     {
-        Word::among(&WORDS, bytes)
+        match version {
+            Version::First => &WORDS,
+        }
+    }
+
+    /// The word that is spelled so, or `None` where the bytes spell no word that the version reserves.
+    pub(crate) fn from_spelling(version: Version, bytes: &[u8]) -> Option<Word>
+        ensures { word_among (reserved version) bytes.now ≡ lexeme_or_name result bytes.now }
+    {
+        Word::among(Word::reserved(version), bytes)
     }
 
     /// The first of the words that is spelled so.
@@ -149,7 +158,7 @@ impl Declaration {
     }
 }
 
-/// What a token is to the language.
+/// What a token is to a version of the language.
 #[derive(Clone, Copy)]
 pub(crate) enum Lexeme {
     Word(Word),
@@ -165,11 +174,11 @@ pub(crate) enum Lexeme {
 }
 
 impl Lexeme {
-    pub(crate) fn of(token: Token) -> Lexeme
-        ensures { lexeme_read result ≡ lexeme_of token }
+    pub(crate) fn of(version: Version, token: Token) -> Lexeme
+        ensures { lexeme_read result ≡ lexeme_of version token }
     {
         match token {
-            Token::Word(name) => Lexeme::of_word(name),
+            Token::Word(name) => Lexeme::of_word(version, name),
             Token::LongWord => Lexeme::LongWord,
             Token::Number(value) => Lexeme::Number(value),
             Token::OutOfRange => Lexeme::OutOfRange,
@@ -185,6 +194,16 @@ impl Lexeme {
     {
         match self {
             Lexeme::Number(value) => Some(value),
+            _ => None,
+        }
+    }
+
+    /// The version whose number it is, if it is that of one.
+    pub(crate) fn version(self) -> Option<Version>
+        ensures { result ≡ version_in (lexeme_read self) }
+    {
+        match self {
+            Lexeme::Number(value) => Version::numbered(value),
             _ => None,
         }
     }
@@ -272,10 +291,10 @@ impl Lexeme {
         }
     }
 
-    fn of_word(name: Name) -> Lexeme
-        ensures { lexeme_read result ≡ word_among reserved name }
+    fn of_word(version: Version, name: Name) -> Lexeme
+        ensures { lexeme_read result ≡ word_among (reserved version) name }
     {
-        match Word::from_spelling(name.bytes()) {
+        match Word::from_spelling(version, name.bytes()) {
             Some(word) => Lexeme::Word(word),
             None => Lexeme::Name(name),
         }

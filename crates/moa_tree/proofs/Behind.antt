@@ -1,16 +1,22 @@
 -- What stands behind each list that does not get stuck: what is wanted there was asked for, and what fills it leads to a text of the grammar.
-use Rattle.std.proofs.Common.{◌≡◌, ℕ, zero, suc, ◌+◌, Bool, true, false, List, [], ◌∷◌, ◌++◌, refl, sym, ap, ◌∙◌, subst, append_assoc, arith, pos}
+use Rattle.std.proofs.Common.{◌≡◌, ℕ, suc, ◌+◌, Bool, true, false, List, [], ◌∷◌, ◌++◌, refl, sym, ap, ◌∙◌, subst, append_assoc, arith, pos}
 use Rattle.std.specs.Prelude.{IsTrue, ℤ, if◌then◌else◌}
+use Rattle.std.specs.Option.{is_some}
+use Rattle.std.specs.declared.option.Option.{Option}
+use Rattle.std.specs.declared.option.Option.TheVariants.{None, Some}
 use Rattle.std.proofs.lemmas.List.{append-nil, map-append}
 use Rattle.std.proofs.lemmas.List.Sums.{fold-append}
 use Rattle.text_tokens.specs.declared.token.Sign.TheVariants as sign
 use Rattle.moa_tree.specs.declared.operator.Op.{Op}
 use Rattle.moa_tree.specs.declared.operator.Op.TheVariants as op
+use Rattle.moa_tree.specs.declared.tree.Version.{Version}
+use Rattle.moa_tree.specs.declared.tree.Version.TheVariants.{First}
 use Rattle.moa_tree.specs.Expected.{cause_of}
 use Rattle.moa_tree.specs.Expr.{Expr, Item, Tree}
 use Rattle.moa_tree.specs.Readings.{Prefix, PrefixOfTwo, ReadsExpr, ReadsItem, ReadsItems, ReadsProgram, has_output, list_lexemes, number_lexemes}
 use Rattle.moa_tree.specs.Refusals.{BeginsAt, BeginsWithin, IsFront, MayFollow, Wants, applies, is_definition, is_end, names}
-use Rattle.moa_tree.specs.Vocabulary.{Lexeme, is_fold}
+use Rattle.moa_tree.specs.Vocabulary.{Lexeme, is_fold, version_number, version_numbered}
+use Rattle.moa_tree.proofs.VersionLemmas.{numbered_is}
 use Rattle.moa_tree.proofs.Wanted.{Want, after, after_stuck, at_start, depth_at, next, not_empty, shorter, stuck, wanted_depth}
 
 -- more levels than a reading needs
@@ -32,13 +38,13 @@ raise_item more levels list item (ReadsItem.input l name extents) = ReadsItem.in
 raise_item more levels list item (ReadsItem.«let» l name of e reads) = ReadsItem.«let» (l + more) name of e (raise more l of e reads)
 raise_item more levels list item (ReadsItem.output l name of e reads) = ReadsItem.output (l + more) name of e (raise more l of e reads)
 
-raise_items : (more levels : ℕ) (list : List Lexeme) (tree : Tree) → ReadsItems levels list tree → ReadsItems (levels + more) list tree
+raise_items : (more levels : ℕ) (list : List Lexeme) (tree : List Item) → ReadsItems levels list tree → ReadsItems (levels + more) list tree
 raise_items more levels list tree (ReadsItems.none l) = ReadsItems.none (l + more)
 raise_items more levels list tree (ReadsItems.more l first others item items reads reads_others) =
     ReadsItems.more (l + more) first others item items (raise_item more l first item reads) (raise_items more l others items reads_others)
 
 -- one statement more at the end
-then_item : (levels : ℕ) (list : List Lexeme) (tree : Tree) → ReadsItems levels list tree → (last : List Lexeme) (item : Item) → ReadsItem levels last item
+then_item : (levels : ℕ) (list : List Lexeme) (tree : List Item) → ReadsItems levels list tree → (last : List Lexeme) (item : Item) → ReadsItem levels last item
     → ReadsItems levels (list ++ last) (tree ++ item ∷ [])
 then_item levels list tree (ReadsItems.none l) last item reads =
     subst (λ list. ReadsItems l list (item ∷ [])) (append-nil last) (ReadsItems.more l last [] item [] reads (ReadsItems.none l))
@@ -46,13 +52,13 @@ then_item levels list tree (ReadsItems.more l first others head items reads_head
     subst (λ list. ReadsItems l list (head ∷ (items ++ item ∷ []))) (sym (append_assoc first others last))
     (ReadsItems.more l first (others ++ last) head (items ++ item ∷ []) reads_head (then_item l others items reads_others last item reads))
 
-output_kept : (item : Item) (tree : Tree) → has_output tree ≡ true → has_output (tree ++ item ∷ []) ≡ true
+output_kept : (item : Item) (tree : List Item) → has_output tree ≡ true → has_output (tree ++ item ∷ []) ≡ true
 output_kept item [] h = absurd (cc h)
 output_kept item (Item.Input name extents ∷ others) h = output_kept item others h
 output_kept item (Item.Let name of ∷ others) h = output_kept item others h
 output_kept item (Item.Output name of ∷ others) h = refl
 
-output_last : (name : List ℕ) (of : Expr) (tree : Tree) → has_output (tree ++ Item.Output name of ∷ []) ≡ true
+output_last : (name : List ℕ) (of : Expr) (tree : List Item) → has_output (tree ++ Item.Output name of ∷ []) ≡ true
 output_last name of [] = refl
 output_last name of (Item.Input name2 extents ∷ others) = output_last name of others
 output_last name of (Item.Let name2 of2 ∷ others) = output_last name of others
@@ -60,12 +66,13 @@ output_last name of (Item.Output name2 of2 ∷ others) = refl
 
 -- the version and statements, with an output among them where one was seen
 pub record AreItems (seen : Bool) (list : List Lexeme) : Type 0 where
+  pub version : Version
   pub levels : ℕ
   pub statements : List Lexeme
-  pub tree : Tree
+  pub tree : List Item
   pub reads : ReadsItems levels statements tree
   pub output : seen ≡ true → has_output tree ≡ true
-  pub is : list ≡ Lexeme.Psi ∷ Lexeme.Number (pos 1) ∷ statements
+  pub is : list ≡ Lexeme.Psi ∷ Lexeme.Number (version_number version) ∷ statements
 
 -- the same, and an input behind them
 pub record AreExtents (seen : Bool) (list : List Lexeme) : Type 0 where
@@ -97,7 +104,7 @@ Before _ list = Unit {0}
 -- whatever fills a want is so
 abbrev Filled : Want → (List Lexeme → Type 0) → Type 0
 Filled Want.Version P = P (Lexeme.Psi ∷ [])
-Filled Want.VersionNumber P = P (Lexeme.Number (pos 1) ∷ [])
+Filled Want.VersionNumber P = (version : Version) → P (Lexeme.Number (version_number version) ∷ [])
 Filled Want.AName P = (name : List ℕ) → P (Lexeme.Name name ∷ [])
 Filled Want.AnEqual P = P (Lexeme.Sign sign.Equal ∷ [])
 Filled (Want.AnExpr depth) P = (levels : ℕ) (of : List Lexeme) (expr : Expr) → ReadsExpr levels of expr → P of
@@ -135,10 +142,10 @@ within_then deeper list (BeginsWithin.second d levels before left inner form exp
     (BeginsWithin.second (suc d) levels before left (inner ++ more) form expr head reads (within_then d inner inside more begins))
 
 begins_then : (depth : ℕ) (list : List Lexeme) → BeginsAt depth list → (more : List Lexeme) → BeginsWithin 1 more → BeginsAt (suc depth) (list ++ more)
-begins_then depth list (BeginsAt.statement levels deeper statements tree word name inner reads h inside) more begins =
+begins_then depth list (BeginsAt.statement version levels deeper statements tree word name inner reads h inside) more begins =
     subst (BeginsAt (suc (suc deeper)))
-    (ap (λ l. Lexeme.Psi ∷ Lexeme.Number (pos 1) ∷ l) (sym (append_assoc statements (word ∷ Lexeme.Name name ∷ Lexeme.Sign sign.Equal ∷ inner) more)))
-    (BeginsAt.statement levels (suc deeper) statements tree word name (inner ++ more) reads h (within_then deeper inner inside more begins))
+    (ap (λ l. Lexeme.Psi ∷ Lexeme.Number (version_number version) ∷ l) (sym (append_assoc statements (word ∷ Lexeme.Name name ∷ Lexeme.Sign sign.Equal ∷ inner) more)))
+    (BeginsAt.statement version levels (suc deeper) statements tree word name (inner ++ more) reads h (within_then deeper inner inside more begins))
 
 begins_one : (before : List Lexeme) (form : Expr → Expr) → Prefix before form → BeginsWithin 1 before
 begins_one before form head = subst (BeginsWithin 1) (append-nil before) (BeginsWithin.one 0 before [] form head BeginsWithin.here)
@@ -275,9 +282,10 @@ expr_step depth wants Lexeme.Scan list b on = fold_behind Lexeme.Scan Expr.Scan 
 expr_step depth wants _ list b on = absurd (on refl)
 
 -- the statements, and this one behind them
-item_behind : (seen now : Bool) (item : Item) → ((tree : Tree) → (seen ≡ true → has_output tree ≡ true) → now ≡ true → has_output (tree ++ item ∷ []) ≡ true)
+item_behind : (seen now : Bool) (item : Item) → ((tree : List Item) → (seen ≡ true → has_output tree ≡ true) → now ≡ true → has_output (tree ++ item ∷ []) ≡ true)
     → (levels : ℕ) (last : List Lexeme) → ReadsItem levels last item → (list : List Lexeme) → AreItems seen list → AreItems now (list ++ last)
 item_behind seen now item output levels last reads list items = record {
+  version = items.version;
   levels = items.levels + levels;
   statements = items.statements ++ last;
   tree = items.tree ++ item ∷ [];
@@ -291,7 +299,7 @@ item_behind seen now item output levels last reads list items = record {
 definition_behind : (word : Lexeme) (make : List ℕ → Expr → Item) (seen now : Bool) → IsTrue (names word) → IsTrue (is_definition word)
     → ((levels : ℕ) (name : List ℕ) (of : List Lexeme) (e : Expr) → ReadsExpr levels of e
     → ReadsItem levels (word ∷ Lexeme.Name name ∷ Lexeme.Sign sign.Equal ∷ of) (make name e))
-    → ((name : List ℕ) (e : Expr) (tree : Tree) → (seen ≡ true → has_output tree ≡ true) → now ≡ true → has_output (tree ++ make name e ∷ []) ≡ true)
+    → ((name : List ℕ) (e : Expr) (tree : List Item) → (seen ≡ true → has_output tree ≡ true) → now ≡ true → has_output (tree ++ make name e ∷ []) ≡ true)
     → (wants : List Want) → wants ≡ [] → (list : List Lexeme) → AreItems seen list
     → Behind (Want.AName ∷ Want.AnEqual ∷ Want.AnExpr 1 ∷ Want.Items now ∷ wants) (list ++ word ∷ [])
 definition_behind word make seen now asks defines reads output wants empty list items = (
@@ -303,7 +311,7 @@ definition_behind word make seen now asks defines reads output wants empty list 
       ∙ append_assoc list (word ∷ []) (Lexeme.Name name ∷ (equal ++ rest)) in
       let begun : BeginsAt 1 (list ++ word ∷ Lexeme.Name name ∷ equal) =
       subst (λ l. BeginsAt 1 (l ++ word ∷ Lexeme.Name name ∷ equal)) (sym items.is)
-      (BeginsAt.statement items.levels 0 items.statements items.tree word name [] items.reads defines BeginsWithin.here) in (
+      (BeginsAt.statement items.version items.levels 0 items.statements items.tree word name [] items.reads defines BeginsWithin.here) in (
         tt,
         (
           subst (BeginsAt 1) (sym (sym (append-nil (named ++ equal)) ∙ apart [])) begun,
@@ -318,12 +326,13 @@ definition_behind word make seen now asks defines reads output wants empty list 
 
 -- the statements, and the end
 program_behind : (list : List Lexeme) → AreItems true list → IsProgram (list ++ Lexeme.End ∷ [])
-program_behind list items = (
-  items.levels,
-  items.tree,
-  subst (λ l. ReadsProgram items.levels (l ++ Lexeme.End ∷ []) items.tree) (sym items.is)
-      (ReadsProgram.program items.levels items.statements items.tree items.reads (items.output refl)),
-)
+program_behind list items =
+    let tree : Tree = record { version = items.version; statements = items.tree } in (
+      items.levels,
+      tree,
+      subst (λ l. ReadsProgram items.levels (l ++ Lexeme.End ∷ []) tree) (sym items.is)
+          (ReadsProgram.program items.levels items.statements tree items.reads (items.output refl)),
+    )
 
 end_step : (seen : Bool) (wants : List Want) → wants ≡ [] → (list : List Lexeme) → AreItems seen list
     → ((if seen then wants else stuck) ≡ stuck → ⊥) → Behind (if seen then wants else stuck) (list ++ Lexeme.End ∷ [])
@@ -374,10 +383,17 @@ fold_step : (op : Op) (test : Bool) → is_fold op ≡ test → (wants : List Wa
 fold_step op true h wants list b on = b.1 op h
 fold_step op false h wants list b on = absurd (on refl)
 
+version_step : (value : ℤ) (found : Option Version) → version_numbered value ≡ found → (wants : List Want) (list : List Lexeme)
+    → Behind (Want.VersionNumber ∷ wants) list
+    → ((if is_some found then wants else stuck) ≡ stuck → ⊥) → Behind (if is_some found then wants else stuck) (list ++ Lexeme.Number value ∷ [])
+version_step value (Some version) e wants list b on =
+    subst (λ z. Behind wants (list ++ Lexeme.Number z ∷ [])) (sym (numbered_is value version e)) (b.1 version)
+version_step value None e wants list b on = absurd (on refl)
+
 step : (wants : List Want) (lexeme : Lexeme) (list : List Lexeme) → Behind wants list → Goes wants lexeme → Behind (next wants lexeme) (list ++ lexeme ∷ [])
 step [] lexeme list b on = absurd (on refl)
 step (Want.Version ∷ wants) Lexeme.Psi list b on = b.1
-step (Want.VersionNumber ∷ wants) (Lexeme.Number (pos (suc zero))) list b on = b.1
+step (Want.VersionNumber ∷ wants) (Lexeme.Number value) list b on = version_step value (version_numbered value) refl wants list b on
 step (Want.Items seen ∷ wants) lexeme list b on = items_step seen wants lexeme b.1 list b.0 on
 step (Want.Extents seen ∷ wants) lexeme list b on = extents_step seen wants lexeme b.1 list b.0 on
 step (Want.AName ∷ wants) (Lexeme.Name name) list b on = b.1 name
@@ -407,7 +423,7 @@ at_start_behind = (
   Wants.version,
   (
     Wants.version_number,
-    (record { levels = 0; statements = []; tree = []; reads = ReadsItems.none 0; output = λ h. absurd (cc h); is = refl }, refl),
+    λ version. (record { version = version; levels = 0; statements = []; tree = []; reads = ReadsItems.none 0; output = λ h. absurd (cc h); is = refl }, refl),
   ),
 )
 
@@ -434,7 +450,7 @@ front_behind [] list b = IsFront.begins b.0 list [] b.1 (subst (λ l. ReadsProgr
 front_behind (Want.Items seen ∷ wants) list b = items_front seen list b.0
 front_behind (Want.Extents seen ∷ wants) list b = items_front seen list (input_behind seen list b.0)
 front_behind (Want.Version ∷ wants) list b = shorter list _ (front_behind wants _ b.1)
-front_behind (Want.VersionNumber ∷ wants) list b = shorter list _ (front_behind wants _ b.1)
+front_behind (Want.VersionNumber ∷ wants) list b = shorter list _ (front_behind wants _ (b.1 First))
 front_behind (Want.AName ∷ wants) list b = shorter list _ (front_behind wants _ (b.1 []))
 front_behind (Want.AnEqual ∷ wants) list b = shorter list _ (front_behind wants _ b.1)
 front_behind (Want.AnExpr depth ∷ wants) list b =
@@ -458,8 +474,8 @@ an_expr depth (_ ∷ wants) e = absurd (omega arith)
 
 -- an expression is wanted where one begins, at its depth
 pub expr_wanted : (depth : ℕ) (list : List Lexeme) → BeginsAt depth list → (others : List Want) × (after at_start list ≡ Want.AnExpr depth ∷ others)
-expr_wanted depth list (BeginsAt.statement levels deeper statements tree word name inner reads h inside) =
-    an_expr deeper (after at_start list) (depth_at (suc deeper) list (BeginsAt.statement levels deeper statements tree word name inner reads h inside))
+expr_wanted depth list (BeginsAt.statement version levels deeper statements tree word name inner reads h inside) =
+    an_expr deeper (after at_start list) (depth_at (suc deeper) list (BeginsAt.statement version levels deeper statements tree word name inner reads h inside))
 
 pub expr_begins : (depth : ℕ) (list : List Lexeme) (others : List Want) → after at_start list ≡ Want.AnExpr depth ∷ others → BeginsAt depth list
 expr_begins depth list others e =

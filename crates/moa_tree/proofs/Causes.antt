@@ -62,40 +62,22 @@ past_names _ h wants lexeme on = absurd (cc h)
 
 past_counts : (word : Lexeme) → counts word ≡ true → (wants : List Want) (lexeme : Lexeme) → (next wants word ≡ stuck → ⊥)
     → cause_of (next wants word) lexeme ≡ 12
-past_counts Lexeme.Iota h wants lexeme on = at_iota wants on
-  where
-    at_iota : (k : List Want) → (next k Lexeme.Iota ≡ stuck → ⊥) → cause_of (next k Lexeme.Iota) lexeme ≡ 12
-    at_iota (Want.AnExpr depth ∷ k) go = refl
-    at_iota _ go = absurd (go refl)
-past_counts Lexeme.Rotate h wants lexeme on = at_rotate wants on
-  where
-    at_rotate : (k : List Want) → (next k Lexeme.Rotate ≡ stuck → ⊥) → cause_of (next k Lexeme.Rotate) lexeme ≡ 12
-    at_rotate (Want.AnExpr depth ∷ k) go = refl
-    at_rotate _ go = absurd (go refl)
+past_counts Lexeme.Iota h (Want.AnExpr depth ∷ wants) lexeme on = refl
+past_counts Lexeme.Iota h _ lexeme on = absurd (on refl)
+past_counts Lexeme.Rotate h (Want.AnExpr depth ∷ wants) lexeme on = refl
+past_counts Lexeme.Rotate h _ lexeme on = absurd (on refl)
 past_counts _ h wants lexeme on = absurd (cc h)
 
 past_applies : (word : Lexeme) → applies word ≡ true → (wants : List Want) (lexeme : Lexeme) → (next wants word ≡ stuck → ⊥)
     → cause_of (next wants word) lexeme ≡ 13
-past_applies Lexeme.Outer h wants lexeme on = at_outer wants on
-  where
-    at_outer : (k : List Want) → (next k Lexeme.Outer ≡ stuck → ⊥) → cause_of (next k Lexeme.Outer) lexeme ≡ 13
-    at_outer (Want.AnExpr depth ∷ k) go = refl
-    at_outer _ go = absurd (go refl)
-past_applies Lexeme.Inner h wants lexeme on = at_inner wants on
-  where
-    at_inner : (k : List Want) → (next k Lexeme.Inner ≡ stuck → ⊥) → cause_of (next k Lexeme.Inner) lexeme ≡ 13
-    at_inner (Want.AnExpr depth ∷ k) go = refl
-    at_inner _ go = absurd (go refl)
-past_applies Lexeme.Reduce h wants lexeme on = at_reduce wants on
-  where
-    at_reduce : (k : List Want) → (next k Lexeme.Reduce ≡ stuck → ⊥) → cause_of (next k Lexeme.Reduce) lexeme ≡ 13
-    at_reduce (Want.AnExpr depth ∷ k) go = refl
-    at_reduce _ go = absurd (go refl)
-past_applies Lexeme.Scan h wants lexeme on = at_scan wants on
-  where
-    at_scan : (k : List Want) → (next k Lexeme.Scan ≡ stuck → ⊥) → cause_of (next k Lexeme.Scan) lexeme ≡ 13
-    at_scan (Want.AnExpr depth ∷ k) go = refl
-    at_scan _ go = absurd (go refl)
+past_applies Lexeme.Outer h (Want.AnExpr depth ∷ wants) lexeme on = refl
+past_applies Lexeme.Outer h _ lexeme on = absurd (on refl)
+past_applies Lexeme.Inner h (Want.AnExpr depth ∷ wants) lexeme on = refl
+past_applies Lexeme.Inner h _ lexeme on = absurd (on refl)
+past_applies Lexeme.Reduce h (Want.AnExpr depth ∷ wants) lexeme on = refl
+past_applies Lexeme.Reduce h _ lexeme on = absurd (on refl)
+past_applies Lexeme.Scan h (Want.AnExpr depth ∷ wants) lexeme on = refl
+past_applies Lexeme.Scan h _ lexeme on = absurd (on refl)
 past_applies _ h wants lexeme on = absurd (cc h)
 
 chosen_op : (test : Bool) (wants : List Want) (lexeme : Lexeme) → ((if test then Want.AnOp ∷ wants else stuck) ≡ stuck → ⊥)

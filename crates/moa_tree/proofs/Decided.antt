@@ -12,18 +12,20 @@ use Rattle.text_tokens.specs.declared.token.Token.{Token}
 use Rattle.text_tokens.specs.declared.token.Token.TheVariants as token
 use Rattle.text_tokens.specs.Tokens.{inner_tokens, position_past, start, tokens}
 use Rattle.moa_tree.specs.Expected.{cause_of}
-use Rattle.moa_tree.specs.Expr.{Tree}
-use Rattle.moa_tree.specs.Outcome.{Outcome, depth_refusal, is_stuck, outcome_from, outcome_of, refusal, refused_or}
+use Rattle.moa_tree.specs.declared.tree.Version.{Version}
+use Rattle.moa_tree.specs.Expr.{Item, Tree}
+use Rattle.moa_tree.specs.Outcome.{Outcome, depth_refusal, is_stuck, outcome_from, outcome_of, refusal, refused_or, tree_in}
 use Rattle.moa_tree.specs.Readings.{Reads, ReadsProgram}
 use Rattle.moa_tree.specs.Refusals.{Cause, IsFront, IsRefused, IsTooDeep, is_no_lexeme}
 use Rattle.moa_tree.specs.Trees.{statements_in}
-use Rattle.moa_tree.specs.Vocabulary.{Lexeme, lexeme_of, lexemes, lexemes_of}
+use Rattle.moa_tree.specs.Vocabulary.{Lexeme, lexeme_of, lexemes, lexemes_of, version_of}
 use Rattle.moa_tree.proofs.Behind.{accepted, deep_begins, ended, is_front, wants_cause}
 use Rattle.moa_tree.proofs.Causes.{cause_wanted, long_word_stuck, malformed_stuck, not_stuck, out_of_range_stuck}
 use Rattle.moa_tree.proofs.Determined.{tree_found}
 use Rattle.moa_tree.proofs.Ends.{no_program_before}
 use Rattle.moa_tree.proofs.Levels.{level_program}
 use Rattle.moa_tree.proofs.Shallow.{lower_program}
+use Rattle.moa_tree.proofs.VersionLemmas.{version_read}
 use Rattle.moa_tree.proofs.Wanted.{Want, after, after_program, after_stuck, at_start, both, depth_at, is_shallow, next, no_front, not_at_129, not_deep, not_empty, stuck, wanted_depth}
 
 -- whether nothing can follow
@@ -88,13 +90,13 @@ goes wants lexeme e =
 
 -- what becomes of these tokens: all lead on, or the first that does not is refused
 data Told (wants : List Want) (list : List (Token × Position)) (tree : Tree) : Outcome → Type 0 where
-  leads : (after wants (lexemes_of list) ≡ stuck → ⊥) → is_shallow wants (lexemes_of list) ≡ true → Told wants list tree (Outcome.Read tree)
+  leads : (after wants (lexemes_of tree.version list) ≡ stuck → ⊥) → is_shallow wants (lexemes_of tree.version list) ≡ true → Told wants list tree (Outcome.Read tree)
   stops : (position : Position) (cause : ℕ) (before : List (Token × Position)) (token : Token) (rest : List (Token × Position))
-      → list ≡ before ++ (token, position) ∷ rest → (after wants (lexemes_of before) ≡ stuck → ⊥) → is_shallow wants (lexemes_of before) ≡ true
-      → refusal (after wants (lexemes_of before)) (lexeme_of token) ≡ Some cause → Told wants list tree (Outcome.Refused position cause)
+      → list ≡ before ++ (token, position) ∷ rest → (after wants (lexemes_of tree.version before) ≡ stuck → ⊥) → is_shallow wants (lexemes_of tree.version before) ≡ true
+      → refusal (after wants (lexemes_of tree.version before)) (lexeme_of tree.version token) ≡ Some cause → Told wants list tree (Outcome.Refused position cause)
 
 told_more : (wants : List Want) (first : Token × Position) (others : List (Token × Position)) (tree : Tree) (outcome : Outcome)
-    → not (wanted_depth wants == 129) ≡ true → Told (next wants (lexeme_of first.0)) others tree outcome → Told wants (first ∷ others) tree outcome
+    → not (wanted_depth wants == 129) ≡ true → Told (next wants (lexeme_of tree.version first.0)) others tree outcome → Told wants (first ∷ others) tree outcome
 told_more wants first others tree outcome h (Told.leads on shallow) =
     Told.leads on (both_true h shallow)
 told_more wants first others tree outcome h (Told.stops position cause before token rest e on shallow why) =
@@ -102,15 +104,15 @@ told_more wants first others tree outcome h (Told.stops position cause before to
 
 told : (tree : Tree) (list : List (Token × Position)) (wants : List Want) → (wants ≡ stuck → ⊥) → Told wants list tree (outcome_from tree wants list)
 told tree [] wants on = Told.leads on refl
-told tree (first ∷ others) wants on = told_first (refusal wants (lexeme_of first.0)) refl (told tree others (next wants (lexeme_of first.0)))
+told tree (first ∷ others) wants on = told_first (refusal wants (lexeme_of tree.version first.0)) refl (told tree others (next wants (lexeme_of tree.version first.0)))
   where
-    told_first : (found : Option ℕ) → refusal wants (lexeme_of first.0) ≡ found
-        → ((next wants (lexeme_of first.0) ≡ stuck → ⊥) → Told (next wants (lexeme_of first.0)) others tree (outcome_from tree (next wants (lexeme_of first.0)) others))
-        → Told wants (first ∷ others) tree (refused_or found first.1 (outcome_from tree (next wants (lexeme_of first.0)) others))
+    told_first : (found : Option ℕ) → refusal wants (lexeme_of tree.version first.0) ≡ found
+        → ((next wants (lexeme_of tree.version first.0) ≡ stuck → ⊥) → Told (next wants (lexeme_of tree.version first.0)) others tree (outcome_from tree (next wants (lexeme_of tree.version first.0)) others))
+        → Told wants (first ∷ others) tree (refused_or found first.1 (outcome_from tree (next wants (lexeme_of tree.version first.0)) others))
     told_first (Some cause) e more = Told.stops first.1 cause [] first.0 others refl on refl e
     told_first None e more =
-        let h = goes wants (lexeme_of first.0) e in
-        told_more wants first others tree (outcome_from tree (next wants (lexeme_of first.0)) others) h.1 (more h.0)
+        let h = goes wants (lexeme_of tree.version first.0) e in
+        told_more wants first others tree (outcome_from tree (next wants (lexeme_of tree.version first.0)) others) h.1 (more h.0)
 
 no_lexeme_or : (lexeme : Lexeme) (wants : List Want) (cause : ℕ) → refusal wants lexeme ≡ Some cause → (front : List Lexeme)
     → (is_no_lexeme lexeme ≡ false → Cause front lexeme cause) → Cause front lexeme cause
@@ -155,47 +157,65 @@ refusal_of_cause front lexeme cause begun (Cause.wanted l k one never wants) = s
 refusal_of_cause front lexeme cause begun (Cause.too_deep l follows deep) =
     refusal_on (after at_start front) l (not_stuck front l follows) ∙ ap depth_refusal (depth_at 129 front deep)
 
-lexemes_split : (before : List (Token × Position)) (token : Token × Position) (after : List (Token × Position))
-    → lexemes_of (before ++ token ∷ after) ≡ lexemes_of before ++ lexeme_of token.0 ∷ lexemes_of after
-lexemes_split [] token after = refl
-lexemes_split (first ∷ others) token after = ap (λ list. lexeme_of first.0 ∷ list) (lexemes_split others token after)
+lexemes_split : (version : Version) (before : List (Token × Position)) (token : Token × Position) (after : List (Token × Position))
+    → lexemes_of version (before ++ token ∷ after) ≡ lexemes_of version before ++ lexeme_of version token.0 ∷ lexemes_of version after
+lexemes_split version [] token after = refl
+lexemes_split version (first ∷ others) token after = ap (λ list. lexeme_of version first.0 ∷ list) (lexemes_split version others token after)
+
+-- the program that a text is read as is the one that is found in it
+same_tree : (version : Version) (statements : List Item) (tree : Tree) → version ≡ tree.version → statements ≡ tree.statements
+    → record { version = version; statements = statements } ≡ tree
+same_tree version statements tree e k =
+    ap (λ v. record { version = v; statements = statements }) e ∙ ap (λ items. record { version = tree.version; statements = items }) k
+
+found_in : (text : List ℕ) (tree : Tree) → ReadsProgram 128 (lexemes (version_of text) text) tree → tree_in text ≡ tree
+found_in text tree reads =
+    let version = version_of text in
+    same_tree version (statements_in 128 (lexemes version text)) tree
+    (version_read version (tokens start text) 128 (lexemes version text) tree reads refl) (tree_found 128 (lexemes version text) tree reads)
+
+read_in : (text : List ℕ) (tree : Tree) → Reads text tree → tree_in text ≡ tree
+read_in text tree reads =
+    let same = version_read tree.version (tokens start text) 128 (lexemes tree.version text) tree reads refl in
+    found_in text tree (subst (λ version. ReadsProgram 128 (lexemes version text) tree) (sym same) reads)
 
 -- what an outcome says
 abbrev pub Says : List ℕ → Outcome → Type 0
 Says text (Outcome.Read tree) = Reads text tree
 Says text (Outcome.Refused position cause) = IsRefused text position cause
 
-told_says : (text : List ℕ) (outcome : Outcome) → Told at_start (tokens start text) (statements_in 128 (lexemes text)) outcome → Says text outcome
+told_says : (text : List ℕ) (outcome : Outcome) → Told at_start (tokens start text) (tree_in text) outcome → Says text outcome
 told_says text outcome (Told.leads on shallow) =
-    let split = lexemes_split (inner_tokens start text) (token.End, position_past start text) [] in
-    let whole = ap (after at_start) split ∙ ended (lexemes_of (inner_tokens start text)) (λ e. on (ap (after at_start) split ∙ e)) in
-    let text_read = accepted (lexemes text) whole in
-    let lower = lower_program text_read.0 (lexemes text) text_read.1 text_read.2 shallow in
-    subst (Reads text) (sym (tree_found 128 (lexemes text) text_read.1 lower)) lower
+    let version = version_of text in
+    let split = lexemes_split version (inner_tokens start text) (token.End, position_past start text) [] in
+    let whole = ap (after at_start) split ∙ ended (lexemes_of version (inner_tokens start text)) (λ e. on (ap (after at_start) split ∙ e)) in
+    let text_read = accepted (lexemes version text) whole in
+    let lower = lower_program text_read.0 (lexemes version text) text_read.1 text_read.2 shallow in
+    subst (ReadsProgram 128 (lexemes version text)) (sym (found_in text text_read.1 lower)) lower
 told_says text outcome (Told.stops position cause before token rest e on shallow why) = record {
   before = before;
   token = token;
   after = rest;
   whole = e;
-  front = is_front (lexemes_of before) on;
-  shallow = not_deep (lexemes_of before) shallow;
-  cause_is = cause_of_refusal (lexemes_of before) on (λ h. complete (accepted (lexemes_of before) h)) (lexeme_of token) cause why;
+  front = is_front (lexemes_of (version_of text) before) on;
+  shallow = not_deep (lexemes_of (version_of text) before) shallow;
+  cause_is = cause_of_refusal (lexemes_of (version_of text) before) on (λ h. complete (accepted (lexemes_of (version_of text) before) h)) (lexeme_of (version_of text) token) cause why;
 }
   where
-    complete : (levels : ℕ) × (tree : Tree) × ReadsProgram levels (lexemes_of before) tree → ⊥
-    complete program = no_program_before text before (token, position) rest e program.0 program.1 program.2
+    complete : (levels : ℕ) × (tree : Tree) × ReadsProgram levels (lexemes_of (version_of text) before) tree → ⊥
+    complete program = no_program_before (version_of text) text before (token, position) rest e program.0 program.1 program.2
 
 pub says : (text : List ℕ) → Says text (outcome_of text)
-says text = told_says text (outcome_of text) (told (statements_in 128 (lexemes text)) (tokens start text) at_start (λ e. cc e))
+says text = told_says text (outcome_of text) (told (tree_in text) (tokens start text) at_start (λ e. cc e))
 
 -- what leads on is passed over
-passed_over : (tree : Tree) (before rest : List (Token × Position)) (wants : List Want) → (after wants (lexemes_of before) ≡ stuck → ⊥)
-    → is_shallow wants (lexemes_of before) ≡ true → outcome_from tree wants (before ++ rest) ≡ outcome_from tree (after wants (lexemes_of before)) rest
+passed_over : (tree : Tree) (before rest : List (Token × Position)) (wants : List Want) → (after wants (lexemes_of tree.version before) ≡ stuck → ⊥)
+    → is_shallow wants (lexemes_of tree.version before) ≡ true → outcome_from tree wants (before ++ rest) ≡ outcome_from tree (after wants (lexemes_of tree.version before)) rest
 passed_over tree [] rest wants on shallow = refl
 passed_over tree (first ∷ others) rest wants on shallow =
-    let lexeme = lexeme_of first.0 in
-    let parts = both (not (wanted_depth wants == 129)) (is_shallow (next wants lexeme) (lexemes_of others)) shallow in
-    let leads = λ (e : next wants lexeme ≡ stuck). on (ap (λ w. after w (lexemes_of others)) e ∙ after_stuck (lexemes_of others)) in
+    let lexeme = lexeme_of tree.version first.0 in
+    let parts = both (not (wanted_depth wants == 129)) (is_shallow (next wants lexeme) (lexemes_of tree.version others)) shallow in
+    let leads = λ (e : next wants lexeme ≡ stuck). on (ap (λ w. after w (lexemes_of tree.version others)) e ∙ after_stuck (lexemes_of tree.version others)) in
     ap (λ found. refused_or found first.1 (outcome_from tree (next wants lexeme) (others ++ rest)))
     (refusal_on wants lexeme leads ∙ not_deep_passes (wanted_depth wants) _ (at_depth (wanted_depth wants)) parts.0)
     ∙ passed_over tree others rest (next wants lexeme) on parts.1
@@ -203,11 +223,11 @@ passed_over tree (first ∷ others) rest wants on shallow =
 -- a text that is read becomes its tree
 pub read_computed : (text : List ℕ) (tree : Tree) → Reads text tree → outcome_of text ≡ Outcome.Read tree
 read_computed text tree reads =
-    let all = after_program 128 (lexemes text) tree reads in
-    let found = statements_in 128 (lexemes text) in
-    ap (outcome_from found at_start) (sym (append-nil (tokens start text)))
-    ∙ passed_over found (tokens start text) [] at_start (λ e. not_empty (sym e ∙ all)) (level_program 128 (lexemes text) tree reads (omega arith))
-    ∙ ap Outcome.Read (tree_found 128 (lexemes text) tree reads)
+    let list = lexemes tree.version text in
+    let all = after_program 128 list tree reads in
+    ap (λ found. outcome_from found at_start (tokens start text)) (read_in text tree reads)
+    ∙ ap (outcome_from tree at_start) (sym (append-nil (tokens start text)))
+    ∙ passed_over tree (tokens start text) [] at_start (λ e. not_empty (sym e ∙ all)) (level_program 128 list tree reads (omega arith))
 
 -- no depth of 129 is wanted where none is too deep
 shallow_front : (list front : List Lexeme)
@@ -227,9 +247,10 @@ shallow_front (lexeme ∷ others) front none =
 -- a text that is refused becomes its refusal
 pub refused_computed : (text : List ℕ) (position : Position) (cause : ℕ) → IsRefused text position cause → outcome_of text ≡ Outcome.Refused position cause
 refused_computed text position cause r =
-    let found = statements_in 128 (lexemes text) in
-    let front = lexemes_of r.before in
+    let version = version_of text in
+    let found = tree_in text in
+    let front = lexemes_of version r.before in
     ap (outcome_from found at_start) r.whole
     ∙ passed_over found r.before ((r.token, position) ∷ r.after) at_start (λ e. no_front front e r.front) (shallow_front front [] r.shallow)
-    ∙ ap (λ cause_found. refused_or cause_found position (outcome_from found (next (after at_start front) (lexeme_of r.token)) r.after))
-    (refusal_of_cause front (lexeme_of r.token) cause r.front r.cause_is)
+    ∙ ap (λ cause_found. refused_or cause_found position (outcome_from found (next (after at_start front) (lexeme_of version r.token)) r.after))
+    (refusal_of_cause front (lexeme_of version r.token) cause r.front r.cause_is)

@@ -75,7 +75,7 @@ item_found levels lexemes item (ReadsItem.«let» l name of e reads) rest h =
 item_found levels lexemes item (ReadsItem.output l name of e reads) rest h =
     ap (λ found. and_then found (λ expr left. Some (Item.Output name expr, left))) (expr_found l of e reads rest)
 
-items_end : (levels : ℕ) (lexemes : List Lexeme) (tree : Tree) → ReadsItems levels lexemes tree → begins_ended (lexemes ++ Lexeme.End ∷ []) ≡ true
+items_end : (levels : ℕ) (lexemes : List Lexeme) (tree : List Item) → ReadsItems levels lexemes tree → begins_ended (lexemes ++ Lexeme.End ∷ []) ≡ true
 items_end levels lexemes tree (ReadsItems.none l) = refl
 items_end levels lexemes tree (ReadsItems.more l first others item items (ReadsItem.input k name extents) reads) = refl
 items_end levels lexemes tree (ReadsItems.more l first others item items (ReadsItem.«let» k name of e reads_e) reads) = refl
@@ -132,12 +132,12 @@ tree_item levels lexemes item (ReadsItem.output l name of e reads) rest h =
     ap (λ found. statement found ++ statements_in l (of ++ rest)) (item_found l _ _ (ReadsItem.output l name of e reads) rest h)
     ∙ ap (λ tree. Item.Output name e ∷ tree) (expr_skipped l l of e reads rest)
 
-tree_items : (levels : ℕ) (lexemes : List Lexeme) (tree : Tree) → ReadsItems levels lexemes tree → statements_in levels (lexemes ++ Lexeme.End ∷ []) ≡ tree
+tree_items : (levels : ℕ) (lexemes : List Lexeme) (tree : List Item) → ReadsItems levels lexemes tree → statements_in levels (lexemes ++ Lexeme.End ∷ []) ≡ tree
 tree_items levels lexemes tree (ReadsItems.none l) = refl
 tree_items levels lexemes tree (ReadsItems.more l first others item items reads reads_others) =
     ap (statements_in l) (append_assoc first others (Lexeme.End ∷ []))
     ∙ tree_item l first item reads (others ++ Lexeme.End ∷ []) (items_end l others items reads_others)
     ∙ ap (λ tree. item ∷ tree) (tree_items l others items reads_others)
 
-pub tree_found : (levels : ℕ) (lexemes : List Lexeme) (tree : Tree) → ReadsProgram levels lexemes tree → statements_in levels lexemes ≡ tree
-tree_found levels lexemes tree (ReadsProgram.program l statements items reads h) = tree_items l statements items reads
+pub tree_found : (levels : ℕ) (lexemes : List Lexeme) (tree : Tree) → ReadsProgram levels lexemes tree → statements_in levels lexemes ≡ tree.statements
+tree_found levels lexemes tree (ReadsProgram.program l statements items reads h) = tree_items l statements items.statements reads

@@ -12,6 +12,8 @@ use Rattle.text_tokens.specs.declared.token.Token.TheVariants as token
 use Rattle.text_tokens.specs.Bytes.{is_run_byte, is_separator, token_of_byte}
 use Rattle.text_tokens.specs.Runs.{is_in_range, is_numeral, is_word, number_value, token_of_run, unsigned_part}
 use Rattle.text_tokens.specs.Tokens.{first_token, inner_tokens, joined_len, position_after, position_past, start, tokens, tokens_after}
+use Rattle.moa_tree.specs.declared.tree.Version.{Version}
+use Rattle.moa_tree.specs.declared.tree.Version.TheVariants.{First}
 use Rattle.moa_tree.specs.Expr.{Tree}
 use Rattle.moa_tree.specs.Readings.{ReadsProgram}
 use Rattle.moa_tree.specs.Refusals.{is_end}
@@ -29,57 +31,62 @@ both_not : (a b : Bool) → a ≡ false → b ≡ false → (a || b) ≡ false
 both_not true b h k = h
 both_not false b h k = k
 
-word_not : (words : List Lexeme) → list_any is_end words ≡ false → (word : List ℕ) → is_end (word_among words word) ≡ false
-word_not [] h word = refl
-word_not (first ∷ others) h word =
-    let parts = neither (is_end first) (list_any is_end others) h in
-    either is_end (bytes_eq word (spelling first)) first (word_among others word) parts.0 (word_not others parts.1 word)
+-- what neither a name nor any of these words is, no word is
+pub word_not : (test : Lexeme → Bool) (words : List Lexeme) → list_any test words ≡ false → (word : List ℕ) → test (Lexeme.Name word) ≡ false
+    → test (word_among words word) ≡ false
+word_not test [] h word name = name
+word_not test (first ∷ others) h word name =
+    let parts = neither (test first) (list_any test others) h in
+    either test (bytes_eq word (spelling first)) first (word_among others word) parts.0 (word_not test others parts.1 word name)
 
-abbrev is_last : Token → Bool
-is_last t = is_end (lexeme_of t)
+no_ends : (version : Version) → list_any is_end (reserved version) ≡ false
+no_ends First = refl
 
-run_not : (run : List ℕ) → is_last (token_of_run run) ≡ false
-run_not run =
-    either is_last (is_name run) (token.Word run) _ (word_not reserved refl run)
-    (either is_last (is_word run) token.LongWord _ refl
-    (either is_last (is_numeral (unsigned_part run)) _ token.Malformed
-    (either is_last (is_in_range (number_value run)) (token.Number (number_value run)) token.OutOfRange refl refl) refl))
+abbrev is_last : Version → Token → Bool
+is_last version t = is_end (lexeme_of version t)
 
-byte_not : (byte : ℕ) → is_last (token_of_byte byte) ≡ false
-byte_not byte =
-    either is_last (byte == 60) _ _ refl (either is_last (byte == 62) _ _ refl (either is_last (byte == 40) _ _ refl
-    (either is_last (byte == 41) _ _ refl (either is_last (byte == 61) (token.Sign sign.Equal) token.Malformed refl refl))))
+run_not : (version : Version) (run : List ℕ) → is_last version (token_of_run run) ≡ false
+run_not version run =
+    either (is_last version) (is_name run) (token.Word run) _ (word_not is_end (reserved version) (no_ends version) run refl)
+    (either (is_last version) (is_word run) token.LongWord _ refl
+    (either (is_last version) (is_numeral (unsigned_part run)) _ token.Malformed
+    (either (is_last version) (is_in_range (number_value run)) (token.Number (number_value run)) token.OutOfRange refl refl) refl))
 
-abbrev has_end : List (Token × Position) → Bool
-has_end placed = list_any (λ t. is_last t.0) placed
+byte_not : (version : Version) (byte : ℕ) → is_last version (token_of_byte byte) ≡ false
+byte_not version byte =
+    either (is_last version) (byte == 60) _ _ refl (either (is_last version) (byte == 62) _ _ refl (either (is_last version) (byte == 40) _ _ refl
+    (either (is_last version) (byte == 41) _ _ refl (either (is_last version) (byte == 61) (token.Sign sign.Equal) token.Malformed refl refl))))
 
-first_not : (position : Position) (first : ℕ) (others : List ℕ) → has_end (first_token position first others) ≡ false
-first_not position first others =
-    either has_end (is_separator first) [] _ refl
-    (either has_end (is_run_byte first) _ _ (ap (λ test. test || false) (run_not (first ∷ take_while is_run_byte others))) (ap (λ test. test || false) (byte_not first)))
+abbrev has_end : Version → List (Token × Position) → Bool
+has_end version placed = list_any (λ t. is_last version t.0) placed
 
-inner_not : (joined : ℕ) (position : Position) (bytes : List ℕ) → has_end (tokens_after joined position bytes) ≡ false
-inner_not zero position [] = refl
-inner_not (suc joined) position [] = refl
-inner_not zero position (first ∷ others) =
+first_not : (version : Version) (position : Position) (first : ℕ) (others : List ℕ) → has_end version (first_token position first others) ≡ false
+first_not version position first others =
+    either (has_end version) (is_separator first) [] _ refl
+    (either (has_end version) (is_run_byte first) _ _ (ap (λ test. test || false) (run_not version (first ∷ take_while is_run_byte others))) (ap (λ test. test || false) (byte_not version first)))
+
+inner_not : (version : Version) (joined : ℕ) (position : Position) (bytes : List ℕ) → has_end version (tokens_after joined position bytes) ≡ false
+inner_not version zero position [] = refl
+inner_not version (suc joined) position [] = refl
+inner_not version zero position (first ∷ others) =
     let behind = tokens_after (joined_len first others) (position_after position first) others in
-    list_any-append (λ t. is_last t.0) (first_token position first others) behind
-    ∙ both_not (has_end (first_token position first others)) (has_end behind) (first_not position first others)
-    (inner_not (joined_len first others) (position_after position first) others)
-inner_not (suc joined) position (first ∷ others) = inner_not joined (position_after position first) others
+    list_any-append (λ t. is_last version t.0) (first_token position first others) behind
+    ∙ both_not (has_end version (first_token position first others)) (has_end version behind) (first_not version position first others)
+    (inner_not version (joined_len first others) (position_after position first) others)
+inner_not version (suc joined) position (first ∷ others) = inner_not version joined (position_after position first) others
 
 nothing_more : {A : Type 0} (before : List A) (x : A) (rest : List A) → [] ≡ before ++ x ∷ rest → ⊥
 nothing_more [] x rest e = cc e
 nothing_more (first ∷ others) x rest e = cc e
 
-before_last : (before : List (Token × Position)) (x : Token × Position) (rest inner : List (Token × Position)) (last : Token × Position)
-    → inner ++ last ∷ [] ≡ before ++ x ∷ rest → has_end inner ≡ false → has_end before ≡ false
-before_last [] x rest inner last e h = refl
-before_last (first ∷ others) x rest [] last e h = absurd (nothing_more others x rest (cc e))
-before_last (first ∷ others) x rest (head ∷ inner) last e h =
-    let parts = neither (is_last head.0) (has_end inner) h in
+before_last : (version : Version) (before : List (Token × Position)) (x : Token × Position) (rest inner : List (Token × Position)) (last : Token × Position)
+    → inner ++ last ∷ [] ≡ before ++ x ∷ rest → has_end version inner ≡ false → has_end version before ≡ false
+before_last version [] x rest inner last e h = refl
+before_last version (first ∷ others) x rest [] last e h = absurd (nothing_more others x rest (cc e))
+before_last version (first ∷ others) x rest (head ∷ inner) last e h =
+    let parts = neither (is_last version head.0) (has_end version inner) h in
     let same : head ≡ first = cc e in
-    both_not (is_last first.0) (has_end others) (ap (λ t. is_last t.0) (sym same) ∙ parts.0) (before_last others x rest inner last (cc e) parts.1)
+    both_not (is_last version first.0) (has_end version others) (ap (λ t. is_last version t.0) (sym same) ∙ parts.0) (before_last version others x rest inner last (cc e) parts.1)
 
 ends_in : (list : List Lexeme) → list_any is_end (list ++ Lexeme.End ∷ []) ≡ true
 ends_in [] = refl
@@ -92,14 +99,14 @@ ends_in (first ∷ others) = further (is_end first) (list_any is_end (others ++ 
 program_ends : (levels : ℕ) (list : List Lexeme) (tree : Tree) → ReadsProgram levels list tree → list_any is_end list ≡ true
 program_ends levels list tree (ReadsProgram.program l statements items reads h) = ends_in statements
 
-same_ends : (placed : List (Token × Position)) → list_any is_end (lexemes_of placed) ≡ has_end placed
-same_ends [] = refl
-same_ends (first ∷ others) = ap (λ test. is_last first.0 || test) (same_ends others)
+same_ends : (version : Version) (placed : List (Token × Position)) → list_any is_end (lexemes_of version placed) ≡ has_end version placed
+same_ends version [] = refl
+same_ends version (first ∷ others) = ap (λ test. is_last version first.0 || test) (same_ends version others)
 
 -- no program stands before a token of a text
-pub no_program_before : (text : List ℕ) (before : List (Token × Position)) (x : Token × Position) (rest : List (Token × Position))
-    → tokens start text ≡ before ++ x ∷ rest → (levels : ℕ) (tree : Tree) → ReadsProgram levels (lexemes_of before) tree → ⊥
-no_program_before text before x rest e levels tree reads =
-    let none = before_last before x rest (inner_tokens start text) (token.End, position_past start text) e (inner_not 0 start text) in
-    let some = program_ends levels (lexemes_of before) tree reads in
-    cc (sym some ∙ same_ends before ∙ none)
+pub no_program_before : (version : Version) (text : List ℕ) (before : List (Token × Position)) (x : Token × Position) (rest : List (Token × Position))
+    → tokens start text ≡ before ++ x ∷ rest → (levels : ℕ) (tree : Tree) → ReadsProgram levels (lexemes_of version before) tree → ⊥
+no_program_before version text before x rest e levels tree reads =
+    let none = before_last version before x rest (inner_tokens start text) (token.End, position_past start text) e (inner_not version 0 start text) in
+    let some = program_ends levels (lexemes_of version before) tree reads in
+    cc (sym some ∙ same_ends version before ∙ none)

@@ -10,7 +10,7 @@ use Rattle.moa_tree.specs.declared.tree.Node.{Node}
 use Rattle.moa_tree.specs.declared.tree.Numbers.{Numbers}
 use Rattle.moa_tree.specs.declared.tree.Statement.{Statement}
 use Rattle.moa_tree.specs.Expr.{Expr, Number}
-use Rattle.moa_tree.specs.Pool.{each_after, expr_of, IsOrdered, item_of, list_at, operands, program_tree, tree_at, trees, trees_after, walk_from, walk_of}
+use Rattle.moa_tree.specs.Pool.{each_after, expr_of, IsOrdered, item_of, items_of, list_at, operands, tree_at, trees, trees_after, walk_from, walk_of}
 use Rattle.moa_tree.specs.Pools.{AreThere, extents_of, lists_of, nodes_of}
 use Rattle.moa_tree.specs.Positions.{positions_at}
 use Rattle.moa_tree.proofs.WalkLemmas.{walks-there}
@@ -109,15 +109,15 @@ item-kept numbers more nodes others s there extents within =
     item-same (numbers ++ more) numbers (trees (numbers ++ more) (nodes ++ others)) (trees numbers nodes) s
     (lists-kept numbers more (extents_of s) extents) (all-kept numbers more nodes others there (nodes_of s) within)
 
-pub program-kept : (numbers more : List ℤ) (nodes others : List Node) (statements : List Statement) → All (λ n. AllByRecursion (AreThere numbers) (lists_of n)) nodes
+pub items-kept : (numbers more : List ℤ) (nodes others : List Node) (statements : List Statement) → All (λ n. AllByRecursion (AreThere numbers) (lists_of n)) nodes
     → All (λ s. AllByRecursion (AreThere numbers) (extents_of s)) statements → All (λ s. AllByRecursion (λ number. number < length nodes) (nodes_of s)) statements
-    → program_tree (numbers ++ more) (nodes ++ others) statements ≡ program_tree numbers nodes statements
-program-kept numbers more nodes others [] there extents within = refl
-program-kept numbers more nodes others (first ∷ rest) there extents within =
-    ap (λ item. item ∷ program_tree (numbers ++ more) (nodes ++ others) rest)
+    → items_of (numbers ++ more) (nodes ++ others) statements ≡ items_of numbers nodes statements
+items-kept numbers more nodes others [] there extents within = refl
+items-kept numbers more nodes others (first ∷ rest) there extents within =
+    ap (λ item. item ∷ items_of (numbers ++ more) (nodes ++ others) rest)
     (item-kept numbers more nodes others first there (extents 0 first (omega arith)) (within 0 first (omega arith)))
     ∙ ap (λ items. item_of numbers (trees numbers nodes) first ∷ items)
-    (program-kept numbers more nodes others rest there (λ k other below. extents (suc k) other (omega (arith, below))) (λ k other below. within (suc k) other (omega (arith, below))))
+    (items-kept numbers more nodes others rest there (λ k other below. extents (suc k) other (omega (arith, below))) (λ k other below. within (suc k) other (omega (arith, below))))
 
 -- the positions of nodes that are there
 positions-kept : (positions more : List Position) (numbers : List ℕ) → AllByRecursion (λ number. number < length positions) numbers

@@ -3,10 +3,10 @@ use Rattle.std.proofs.Common.{◌≡◌, ℕ, suc, ◌+◌, ◌≤◌, ◌<◌, 
 use Rattle.std.specs.Prelude.{◌&&◌, not, ◌==◌, ℤ}
 use Rattle.std.proofs.lemmas.Bool.Decides.{nat_tests}
 use Rattle.text_tokens.specs.declared.token.Sign.TheVariants as sign
-use Rattle.moa_tree.specs.Expr.{Expr, Tree}
+use Rattle.moa_tree.specs.Expr.{Expr, Item, Tree}
 use Rattle.moa_tree.specs.Readings.{Prefix, PrefixOfTwo, ReadsExpr, ReadsItem, ReadsItems, ReadsProgram, number_lexemes}
 use Rattle.moa_tree.specs.Vocabulary.{Lexeme, is_fold, lexemes}
-use Rattle.moa_tree.proofs.Wanted.{Want, at_start, chosen, ends_items, is_shallow, seen_after, stuck}
+use Rattle.moa_tree.proofs.Wanted.{Want, at_start, chosen, ends_items, is_shallow, seen_after, shallow_version, stuck}
 
 passes : (depth : ℕ) → depth < 129 → not (depth == 129) ≡ true
 passes depth h = grind (arith, nat_tests)
@@ -76,7 +76,7 @@ level_end : (last : Lexeme) → ends_items last ≡ true → (seen : Bool) (want
 level_end (Lexeme.Number value) h seen wants rest = absurd (cc h)
 level_end _ h seen wants rest = refl
 
-pub level_extents_items : (levels : ℕ) (lexemes : List Lexeme) (tree : Tree) → ReadsItems levels lexemes tree
+pub level_extents_items : (levels : ℕ) (lexemes : List Lexeme) (tree : List Item) → ReadsItems levels lexemes tree
     → (last : Lexeme) → ends_items last ≡ true → (seen : Bool) (wants : List Want) (rest : List Lexeme)
     → is_shallow (Want.Extents seen ∷ wants) (lexemes ++ last ∷ rest) ≡ is_shallow (Want.Items seen ∷ wants) (lexemes ++ last ∷ rest)
 level_extents_items levels lexemes tree (ReadsItems.none l) last h seen wants rest = level_end last h seen wants rest
@@ -84,7 +84,7 @@ level_extents_items levels lexemes tree (ReadsItems.more l first others item ite
 level_extents_items levels lexemes tree (ReadsItems.more l first others item items (ReadsItem.«let» k name of e reads_e) reads) last h seen wants rest = refl
 level_extents_items levels lexemes tree (ReadsItems.more l first others item items (ReadsItem.output k name of e reads_e) reads) last h seen wants rest = refl
 
-level_items : (levels : ℕ) (lexemes : List Lexeme) (tree : Tree) → ReadsItems levels lexemes tree → levels ≤ 128
+level_items : (levels : ℕ) (lexemes : List Lexeme) (tree : List Item) → ReadsItems levels lexemes tree → levels ≤ 128
     → (last : Lexeme) → ends_items last ≡ true → (seen : Bool) (wants : List Want) (rest : List Lexeme)
     → is_shallow (Want.Items seen ∷ wants) (lexemes ++ last ∷ rest) ≡ is_shallow (Want.Items (seen_after seen tree) ∷ wants) (last ∷ rest)
 level_items levels lexemes tree (ReadsItems.none l) within last h seen wants rest = refl
@@ -104,4 +104,5 @@ level_items levels lexemes tree (ReadsItems.more l first others item items (Read
 
 pub level_program : (levels : ℕ) (lexemes : List Lexeme) (tree : Tree) → ReadsProgram levels lexemes tree → levels ≤ 128 → is_shallow at_start lexemes ≡ true
 level_program levels lexemes tree (ReadsProgram.program l statements items reads h) within =
-    level_items l statements items reads within Lexeme.End refl false [] []
+    shallow_version items.version (statements ++ Lexeme.End ∷ [])
+    ∙ level_items l statements items.statements reads within Lexeme.End refl false [] []

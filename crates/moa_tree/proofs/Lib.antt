@@ -12,5 +12,6 @@ pub mod Printed
 pub mod Reprinted
 pub mod Shallow
 pub mod SmallProgram
+pub mod VersionLemmas
 pub mod WalkLemmas
 pub mod Wanted

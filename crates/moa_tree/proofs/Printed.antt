@@ -1,5 +1,5 @@
 -- The lexemes of a canonical text, and how they read.
-use Rattle.std.proofs.Common.{◌≡◌, ℕ, zero, suc, Bool, true, false, List, [], ◌∷◌, ◌++◌, refl, sym, ap, ◌∙◌, subst, rules, append_assoc, length, codes, pos, w64}
+use Rattle.std.proofs.Common.{◌≡◌, ℕ, zero, suc, Bool, true, false, List, [], ◌∷◌, ◌++◌, refl, sym, ap, ◌∙◌, subst, rules, append_assoc, length, codes, w64}
 use Rattle.std.specs.Prelude.{◌||◌, not, ℤ, FitsSigned, IsTrue, if◌then◌else◌}
 use Rattle.std.specs.Fmt.{signed_decimal}
 use Rattle.std.specs.List.{AllByRecursion, flat_map, list_any}
@@ -15,40 +15,42 @@ use Rattle.text_tokens.specs.Tokens.{along, first_token, joined_len, position_af
 use Rattle.moa_tree.specs.declared.operator.Op.{Op}
 use Rattle.moa_tree.specs.declared.operator.Op.TheVariants as op
 use Rattle.moa_tree.specs.declared.operator.Unary.TheVariants as unary
+use Rattle.moa_tree.specs.declared.tree.Version.{Version}
+use Rattle.moa_tree.specs.declared.tree.Version.TheVariants.{First}
 use Rattle.moa_tree.specs.Canonical.{IsBuilt, IsBuiltItem, IsSpelled, IsWritable, canonical, expr_lexemes, item_lexemes, line}
 use Rattle.moa_tree.specs.Expr.{Expr, Item, Tree}
 use Rattle.moa_tree.specs.Readings.{Prefix, PrefixOfTwo, Reads, ReadsExpr, ReadsItem, ReadsItems, ReadsProgram, has_output}
-use Rattle.moa_tree.specs.Vocabulary.{Lexeme, is_reserved, lexeme_of, lexemes, lexemes_of, op_word, reserved, spelling, word_among}
+use Rattle.moa_tree.specs.Vocabulary.{Lexeme, is_reserved, lexeme_of, lexemes, lexemes_of, op_word, reserved, spelling, version_number, word_among}
 use Rattle.moa_tree.proofs.Wanted.{both}
 
 -- Where a text begins does not matter to its lexemes.
-lexemes_append : (a b : List (Token × Position)) → lexemes_of (a ++ b) ≡ lexemes_of a ++ lexemes_of b
-lexemes_append [] b = refl
-lexemes_append (first ∷ others) b = ap (λ list. lexeme_of first.0 ∷ list) (lexemes_append others b)
+lexemes_append : (version : Version) (a b : List (Token × Position)) → lexemes_of version (a ++ b) ≡ lexemes_of version a ++ lexemes_of version b
+lexemes_append version [] b = refl
+lexemes_append version (first ∷ others) b = ap (λ list. lexeme_of version first.0 ∷ list) (lexemes_append version others b)
 
-same_choice : (a b : Bool) (t u : Token) (p q : Position)
-    → lexemes_of (if a then [] else (if b then (t, p) ∷ [] else (u, p) ∷ [])) ≡ lexemes_of (if a then [] else (if b then (t, q) ∷ [] else (u, q) ∷ []))
-same_choice true b t u p q = refl
-same_choice false true t u p q = refl
-same_choice false false t u p q = refl
+same_choice : (version : Version) (a b : Bool) (t u : Token) (p q : Position)
+    → lexemes_of version (if a then [] else (if b then (t, p) ∷ [] else (u, p) ∷ [])) ≡ lexemes_of version (if a then [] else (if b then (t, q) ∷ [] else (u, q) ∷ []))
+same_choice version true b t u p q = refl
+same_choice version false true t u p q = refl
+same_choice version false false t u p q = refl
 
-first_anywhere : (p q : Position) (first : ℕ) (others : List ℕ) → lexemes_of (first_token p first others) ≡ lexemes_of (first_token q first others)
-first_anywhere p q first others = same_choice (is_separator first) (is_run_byte first) _ _ p q
+first_anywhere : (version : Version) (p q : Position) (first : ℕ) (others : List ℕ) → lexemes_of version (first_token p first others) ≡ lexemes_of version (first_token q first others)
+first_anywhere version p q first others = same_choice version (is_separator first) (is_run_byte first) _ _ p q
 
-after_anywhere : (joined : ℕ) (bytes : List ℕ) (p q : Position) → lexemes_of (tokens_after joined p bytes) ≡ lexemes_of (tokens_after joined q bytes)
-after_anywhere joined [] p q = refl
-after_anywhere zero (first ∷ others) p q =
-    lexemes_append (first_token p first others) _
-    ∙ ap (λ list. list ++ lexemes_of (tokens_after (joined_len first others) (position_after p first) others)) (first_anywhere p q first others)
-    ∙ ap (λ list. lexemes_of (first_token q first others) ++ list) (after_anywhere (joined_len first others) others (position_after p first) (position_after q first))
-    ∙ sym (lexemes_append (first_token q first others) _)
-after_anywhere (suc joined) (first ∷ others) p q = after_anywhere joined others (position_after p first) (position_after q first)
+after_anywhere : (version : Version) (joined : ℕ) (bytes : List ℕ) (p q : Position) → lexemes_of version (tokens_after joined p bytes) ≡ lexemes_of version (tokens_after joined q bytes)
+after_anywhere version joined [] p q = refl
+after_anywhere version zero (first ∷ others) p q =
+    lexemes_append version (first_token p first others) _
+    ∙ ap (λ list. list ++ lexemes_of version (tokens_after (joined_len first others) (position_after p first) others)) (first_anywhere version p q first others)
+    ∙ ap (λ list. lexemes_of version (first_token q first others) ++ list) (after_anywhere version (joined_len first others) others (position_after p first) (position_after q first))
+    ∙ sym (lexemes_append version (first_token q first others) _)
+after_anywhere version (suc joined) (first ∷ others) p q = after_anywhere version joined others (position_after p first) (position_after q first)
 
-pub anywhere : (p : Position) (bytes : List ℕ) → lexemes_of (tokens p bytes) ≡ lexemes bytes
-anywhere p bytes =
-    lexemes_append (tokens_after 0 p bytes) ((token.End, position_past p bytes) ∷ [])
-    ∙ ap (λ list. list ++ Lexeme.End ∷ []) (after_anywhere 0 bytes p start)
-    ∙ sym (lexemes_append (tokens_after 0 start bytes) ((token.End, position_past start bytes) ∷ []))
+pub anywhere : (version : Version) (p : Position) (bytes : List ℕ) → lexemes_of version (tokens p bytes) ≡ lexemes version bytes
+anywhere version p bytes =
+    lexemes_append version (tokens_after 0 p bytes) ((token.End, position_past p bytes) ∷ [])
+    ∙ ap (λ list. list ++ Lexeme.End ∷ []) (after_anywhere version 0 bytes p start)
+    ∙ sym (lexemes_append version (tokens_after 0 start bytes) ((token.End, position_past start bytes) ∷ []))
 
 none_chosen : (test rest : Bool) (first other named : Lexeme) → (test || rest) ≡ false → (rest ≡ false → other ≡ named) → (if test then first else other) ≡ named
 none_chosen true rest first other named e more = absurd (cc e)
@@ -65,7 +67,7 @@ is_false false h = refl
 is_false true h = absurd (cc h)
 
 -- what stands between the version and the end
-abbrev pub statement_lexemes : Tree → List Lexeme
+abbrev pub statement_lexemes : List Item → List Lexeme
 statement_lexemes [] = []
 statement_lexemes (item ∷ others) = item_lexemes item ++ statement_lexemes others
 
@@ -100,10 +102,10 @@ item_reads (Item.Input name extents) h = ReadsItem.input 128 name extents
 item_reads (Item.Let name of) h = ReadsItem.«let» 128 name (expr_lexemes of) of (built_reads 128 of h)
 item_reads (Item.Output name of) h = ReadsItem.output 128 name (expr_lexemes of) of (built_reads 128 of h)
 
-writable_reads : (tree : Tree) → AllByRecursion IsWritable tree → ReadsItems 128 (statement_lexemes tree) tree
-writable_reads [] h = ReadsItems.none 128
-writable_reads (item ∷ others) h =
-    ReadsItems.more 128 (item_lexemes item) (statement_lexemes others) item others (item_reads item (h.0).built) (writable_reads others h.1)
+writable_reads : (version : Version) (items : List Item) → AllByRecursion (IsWritable version) items → ReadsItems 128 (statement_lexemes items) items
+writable_reads version [] h = ReadsItems.none 128
+writable_reads version (item ∷ others) h =
+    ReadsItems.more 128 (item_lexemes item) (statement_lexemes others) item others (item_reads item (h.0).built) (writable_reads version others h.1)
 
 abbrev pub NumberLaw : Type 0
 NumberLaw = (position : Position) (z : ℤ) (rest : List ℕ) → FitsSigned w64 z → begins_in_run rest ≡ false
@@ -113,16 +115,16 @@ abbrev pub NameLaw : Type 0
 NameLaw = (position : Position) (name rest : List ℕ) → IsName name → begins_in_run rest ≡ false
     → tokens position (name ++ rest) ≡ (token.Word name, position) ∷ tokens (along position (length name)) rest
 
-module _ (number_law : NumberLaw) (name_law : NameLaw) where
-  word_first : (word rest : List ℕ) → IsName word → begins_in_run rest ≡ false → lexemes (word ++ rest) ≡ word_among reserved word ∷ lexemes rest
+module _ (version : Version) (number_law : NumberLaw) (name_law : NameLaw) where
+  word_first : (word rest : List ℕ) → IsName word → begins_in_run rest ≡ false → lexemes version (word ++ rest) ≡ word_among (reserved version) word ∷ lexemes version rest
   word_first word rest h ends =
-      ap lexemes_of (name_law start word rest h ends) ∙ ap (λ list. word_among reserved word ∷ list) (anywhere (along start (length word)) rest)
+      ap (lexemes_of version) (name_law start word rest h ends) ∙ ap (λ list. word_among (reserved version) word ∷ list) (anywhere version (along start (length word)) rest)
 
-  number_first : (z : ℤ) (rest : List ℕ) → FitsSigned w64 z → begins_in_run rest ≡ false → lexemes (signed_decimal z ++ rest) ≡ Lexeme.Number z ∷ lexemes rest
+  number_first : (z : ℤ) (rest : List ℕ) → FitsSigned w64 z → begins_in_run rest ≡ false → lexemes version (signed_decimal z ++ rest) ≡ Lexeme.Number z ∷ lexemes version rest
   number_first z rest h ends =
-      ap lexemes_of (number_law start z rest h ends) ∙ ap (λ list. Lexeme.Number z ∷ list) (anywhere (along start (length (signed_decimal z))) rest)
+      ap (lexemes_of version) (number_law start z rest h ends) ∙ ap (λ list. Lexeme.Number z ∷ list) (anywhere version (along start (length (signed_decimal z))) rest)
 
-  op_first : (op : Op) (rest : List ℕ) → begins_in_run rest ≡ false → lexemes (op_word op ++ rest) ≡ Lexeme.Binary op ∷ lexemes rest
+  op_first : (op : Op) (rest : List ℕ) → begins_in_run rest ≡ false → lexemes version (op_word op ++ rest) ≡ Lexeme.Binary op ∷ lexemes version rest
   op_first op.Add rest ends = word_first (codes "add") rest refl ends
   op_first op.Sub rest ends = word_first (codes "sub") rest refl ends
   op_first op.Mul rest ends = word_first (codes "mul") rest refl ends
@@ -139,7 +141,7 @@ module _ (number_law : NumberLaw) (name_law : NameLaw) where
   op_first op.Xor rest ends = word_first (codes "xor") rest refl ends
 
   -- no run goes on from a spelling into what follows it
-  spelled_first : (lexeme : Lexeme) (rest : List ℕ) → IsSpelled lexeme → begins_in_run rest ≡ false → lexemes (spelling lexeme ++ rest) ≡ lexeme ∷ lexemes rest
+  spelled_first : (lexeme : Lexeme) (rest : List ℕ) → IsSpelled version lexeme → begins_in_run rest ≡ false → lexemes version (spelling lexeme ++ rest) ≡ lexeme ∷ lexemes version rest
   spelled_first Lexeme.In rest h ends = word_first (codes "in") rest refl ends
   spelled_first Lexeme.Let rest h ends = word_first (codes "let") rest refl ends
   spelled_first Lexeme.Out rest h ends = word_first (codes "out") rest refl ends
@@ -163,14 +165,14 @@ module _ (number_law : NumberLaw) (name_law : NameLaw) where
   spelled_first (Lexeme.Unary unary.Abs) rest h ends = word_first (codes "abs") rest refl ends
   spelled_first (Lexeme.Binary op) rest h ends = op_first op rest ends
   spelled_first (Lexeme.Name name) rest h ends =
-      let parts = both (is_name name) (not (is_reserved name)) h in
-      word_first name rest parts.0 ends ∙ ap (λ lexeme. lexeme ∷ lexemes rest) (not_among reserved name (is_false (is_reserved name) parts.1))
+      let parts = both (is_name name) (not (is_reserved version name)) h in
+      word_first name rest parts.0 ends ∙ ap (λ lexeme. lexeme ∷ lexemes version rest) (not_among (reserved version) name (is_false (is_reserved version name) parts.1))
   spelled_first (Lexeme.Number value) rest h ends = number_first value rest h ends
-  spelled_first (Lexeme.Sign sign.Less) rest h ends = ap (λ list. Lexeme.Sign sign.Less ∷ list) (anywhere (position_after start 60) rest)
-  spelled_first (Lexeme.Sign sign.Greater) rest h ends = ap (λ list. Lexeme.Sign sign.Greater ∷ list) (anywhere (position_after start 62) rest)
-  spelled_first (Lexeme.Sign sign.Open) rest h ends = ap (λ list. Lexeme.Sign sign.Open ∷ list) (anywhere (position_after start 40) rest)
-  spelled_first (Lexeme.Sign sign.Close) rest h ends = ap (λ list. Lexeme.Sign sign.Close ∷ list) (anywhere (position_after start 41) rest)
-  spelled_first (Lexeme.Sign sign.Equal) rest h ends = ap (λ list. Lexeme.Sign sign.Equal ∷ list) (anywhere (position_after start 61) rest)
+  spelled_first (Lexeme.Sign sign.Less) rest h ends = ap (λ list. Lexeme.Sign sign.Less ∷ list) (anywhere version (position_after start 60) rest)
+  spelled_first (Lexeme.Sign sign.Greater) rest h ends = ap (λ list. Lexeme.Sign sign.Greater ∷ list) (anywhere version (position_after start 62) rest)
+  spelled_first (Lexeme.Sign sign.Open) rest h ends = ap (λ list. Lexeme.Sign sign.Open ∷ list) (anywhere version (position_after start 40) rest)
+  spelled_first (Lexeme.Sign sign.Close) rest h ends = ap (λ list. Lexeme.Sign sign.Close ∷ list) (anywhere version (position_after start 41) rest)
+  spelled_first (Lexeme.Sign sign.Equal) rest h ends = ap (λ list. Lexeme.Sign sign.Equal ∷ list) (anywhere version (position_after start 61) rest)
   spelled_first Lexeme.Malformed rest h ends = absurd h
   spelled_first Lexeme.OutOfRange rest h ends = absurd h
   spelled_first Lexeme.LongWord rest h ends = absurd h
@@ -180,42 +182,47 @@ module _ (number_law : NumberLaw) (name_law : NameLaw) where
   greater_line [] rest = refl
   greater_line (second ∷ others) rest = refl
 
-  gap_first : (first second : Lexeme) (others : List Lexeme) (rest : List ℕ) → IsSpelled first
-      → lexemes (line (first ∷ second ∷ others) ++ rest) ≡ first ∷ lexemes (line (second ∷ others) ++ rest)
+  gap_first : (first second : Lexeme) (others : List Lexeme) (rest : List ℕ) → IsSpelled version first
+      → lexemes version (line (first ∷ second ∷ others) ++ rest) ≡ first ∷ lexemes version (line (second ∷ others) ++ rest)
   gap_first (Lexeme.Sign sign.Less) second others rest h =
-      ap (λ list. Lexeme.Sign sign.Less ∷ list) (anywhere (position_after start 60) (line (second ∷ others) ++ rest))
+      ap (λ list. Lexeme.Sign sign.Less ∷ list) (anywhere version (position_after start 60) (line (second ∷ others) ++ rest))
   gap_first first (Lexeme.Sign sign.Greater) others rest h =
-      ap lexemes (append_assoc (spelling first) (line (Lexeme.Sign sign.Greater ∷ others)) rest)
+      ap (lexemes version) (append_assoc (spelling first) (line (Lexeme.Sign sign.Greater ∷ others)) rest)
       ∙ spelled_first first (line (Lexeme.Sign sign.Greater ∷ others) ++ rest) h (greater_line others rest)
   gap_first first second others rest h =
-      ap lexemes (append_assoc (spelling first) (32 ∷ line (second ∷ others)) rest)
+      ap (lexemes version) (append_assoc (spelling first) (32 ∷ line (second ∷ others)) rest)
       ∙ spelled_first first (32 ∷ (line (second ∷ others) ++ rest)) h refl
-      ∙ ap (λ list. first ∷ list) (anywhere (position_after start 32) (line (second ∷ others) ++ rest))
+      ∙ ap (λ list. first ∷ list) (anywhere version (position_after start 32) (line (second ∷ others) ++ rest))
 
-  line_lexemes : (list : List Lexeme) → AllByRecursion IsSpelled list → (rest : List ℕ) → lexemes (line list ++ rest) ≡ list ++ lexemes rest
-  line_lexemes [] h rest = anywhere (position_after start 10) rest
+  line_lexemes : (list : List Lexeme) → AllByRecursion (IsSpelled version) list → (rest : List ℕ) → lexemes version (line list ++ rest) ≡ list ++ lexemes version rest
+  line_lexemes [] h rest = anywhere version (position_after start 10) rest
   line_lexemes (last ∷ []) h rest =
-      ap lexemes (append_assoc (spelling last) (10 ∷ []) rest) ∙ spelled_first last (10 ∷ rest) h.0 refl
-      ∙ ap (λ list. last ∷ list) (anywhere (position_after start 10) rest)
+      ap (lexemes version) (append_assoc (spelling last) (10 ∷ []) rest) ∙ spelled_first last (10 ∷ rest) h.0 refl
+      ∙ ap (λ list. last ∷ list) (anywhere version (position_after start 10) rest)
   line_lexemes (first ∷ second ∷ others) h rest =
       gap_first first second others rest h.0 ∙ ap (λ list. first ∷ list) (line_lexemes (second ∷ others) h.1 rest)
 
-  lines_lexemes : (tree : Tree) → AllByRecursion IsWritable tree
-      → lexemes (flat_map (λ item. line (item_lexemes item)) tree) ≡ statement_lexemes tree ++ Lexeme.End ∷ []
+  lines_lexemes : (items : List Item) → AllByRecursion (IsWritable version) items
+      → lexemes version (flat_map (λ item. line (item_lexemes item)) items) ≡ statement_lexemes items ++ Lexeme.End ∷ []
   lines_lexemes [] h = refl
   lines_lexemes (item ∷ others) h =
       line_lexemes (item_lexemes item) (h.0).spelled (flat_map (λ item. line (item_lexemes item)) others)
       ∙ ap (λ list. item_lexemes item ++ list) (lines_lexemes others h.1)
       ∙ sym (append_assoc (item_lexemes item) (statement_lexemes others) (Lexeme.End ∷ []))
 
-  canonical_lexemes : (tree : Tree) → AllByRecursion IsWritable tree
-      → lexemes (canonical tree) ≡ Lexeme.Psi ∷ Lexeme.Number (pos 1) ∷ (statement_lexemes tree ++ Lexeme.End ∷ [])
-  canonical_lexemes tree h =
-      line_lexemes (Lexeme.Psi ∷ Lexeme.Number (pos 1) ∷ []) (tt, (search rules, tt)) (flat_map (λ item. line (item_lexemes item)) tree)
-      ∙ ap (λ list. Lexeme.Psi ∷ Lexeme.Number (pos 1) ∷ list) (lines_lexemes tree h)
+number_fits : (version : Version) → FitsSigned w64 (version_number version)
+number_fits First = search rules
 
-  -- the canonical text reads as its program
-  pub canonical_reads : (tree : Tree) → AllByRecursion IsWritable tree → IsTrue (has_output tree) → Reads (canonical tree) tree
-  canonical_reads tree h output =
-      subst (λ list. ReadsProgram 128 list tree) (sym (canonical_lexemes tree h))
-      (ReadsProgram.program 128 (statement_lexemes tree) tree (writable_reads tree h) output)
+canonical_lexemes : NumberLaw → NameLaw → (tree : Tree) → AllByRecursion (IsWritable tree.version) tree.statements
+    → lexemes tree.version (canonical tree) ≡ Lexeme.Psi ∷ Lexeme.Number (version_number tree.version) ∷ (statement_lexemes tree.statements ++ Lexeme.End ∷ [])
+canonical_lexemes number_law name_law tree h =
+    let head = Lexeme.Psi ∷ Lexeme.Number (version_number tree.version) ∷ [] in
+    line_lexemes tree.version number_law name_law head (tt, (number_fits tree.version, tt)) (flat_map (λ item. line (item_lexemes item)) tree.statements)
+    ∙ ap (λ list. head ++ list) (lines_lexemes tree.version number_law name_law tree.statements h)
+
+-- the canonical text reads as its program
+pub canonical_reads : NumberLaw → NameLaw → (tree : Tree) → AllByRecursion (IsWritable tree.version) tree.statements → IsTrue (has_output tree.statements)
+    → Reads (canonical tree) tree
+canonical_reads number_law name_law tree h output =
+    subst (λ list. ReadsProgram 128 list tree) (sym (canonical_lexemes number_law name_law tree h))
+    (ReadsProgram.program 128 (statement_lexemes tree.statements) tree (writable_reads tree.version tree.statements h) output)

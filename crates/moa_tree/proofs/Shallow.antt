@@ -2,11 +2,11 @@
 use Rattle.std.proofs.Common.{◌≡◌, ℕ, zero, suc, ◌+◌, Bool, true, false, List, [], ◌∷◌, ◌++◌, refl, sym, ap, ◌∙◌, append_assoc, arith}
 use Rattle.std.specs.Prelude.{not, ◌==◌}
 use Rattle.text_tokens.specs.declared.token.Sign.TheVariants as sign
-use Rattle.moa_tree.specs.Expr.{Expr, Tree}
+use Rattle.moa_tree.specs.Expr.{Expr, Item, Tree}
 use Rattle.moa_tree.specs.Readings.{ReadsExpr, ReadsItem, ReadsItems, ReadsProgram, number_lexemes}
 use Rattle.moa_tree.specs.Vocabulary.{Lexeme}
 use Rattle.moa_tree.proofs.Levels.{level_expr, level_extents, level_extents_items, level_prefix, level_prefix_of_two}
-use Rattle.moa_tree.proofs.Wanted.{Want, after, after_expr, at_start, both, ends_items, is_shallow, not_at_129}
+use Rattle.moa_tree.proofs.Wanted.{Want, after, after_expr, at_start, both, ends_items, is_shallow, not_at_129, shallow_version}
 
 -- an expression begins at no depth of 129
 not_below : (list : List Lexeme) (depth : ℕ) (wants : List Want) (rest : List Lexeme) → after (Want.AnExpr depth ∷ []) (list ++ []) ≡ []
@@ -38,7 +38,7 @@ lower_expr levels list expr (ReadsExpr.two l before first second form left right
     ReadsExpr.two more before first second form left right head lower_left
     (lower_expr l second right reads2 (suc depth) more (omega arith) wants rest behind)
 
-lower_items : (levels : ℕ) (list : List Lexeme) (tree : Tree) → ReadsItems levels list tree → (last : Lexeme) → ends_items last ≡ true
+lower_items : (levels : ℕ) (list : List Lexeme) (tree : List Item) → ReadsItems levels list tree → (last : Lexeme) → ends_items last ≡ true
     → (seen : Bool) (wants : List Want) (rest : List Lexeme) → is_shallow (Want.Items seen ∷ wants) (list ++ last ∷ rest) ≡ true → ReadsItems 128 list tree
 lower_items levels list tree (ReadsItems.none l) last ends seen wants rest h = ReadsItems.none 128
 lower_items levels list tree (ReadsItems.more l first others item items (ReadsItem.input k name extents) reads) last ends seen wants rest h =
@@ -59,4 +59,5 @@ lower_items levels list tree (ReadsItems.more l first others item items (ReadsIt
 pub lower_program : (levels : ℕ) (list : List Lexeme) (tree : Tree) → ReadsProgram levels list tree → is_shallow at_start list ≡ true
     → ReadsProgram 128 list tree
 lower_program levels list tree (ReadsProgram.program l statements items reads output) h =
-    ReadsProgram.program 128 statements items (lower_items l statements items reads Lexeme.End refl false [] [] h) output
+    ReadsProgram.program 128 statements items
+    (lower_items l statements items.statements reads Lexeme.End refl false [] [] (sym (shallow_version items.version (statements ++ Lexeme.End ∷ [])) ∙ h)) output

@@ -40,7 +40,7 @@ lists_apart zero = omega arith
 lists_apart (suc zero) = omega arith
 lists_apart (suc (suc k)) = grind (arith, nat_tests)
 
-pub small_is_program : ((tree : Tree) → AllByRecursion IsWritable tree → IsTrue (has_output tree) → Reads (canonical tree) tree)
+pub small_is_program : ((tree : Tree) → AllByRecursion (IsWritable tree.version) tree.statements → IsTrue (has_output tree.statements) → Reads (canonical tree) tree)
     → IsProgram small
 small_is_program law = record {
   placed = refl;

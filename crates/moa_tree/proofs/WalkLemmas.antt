@@ -289,7 +289,7 @@ module _ (pool : List ℤ) (nodes : List Node) (ordered : IsOrdered nodes) (othe
   over-statements (statement.Output name number at ∷ others) = ap (λ l. subexpressions (tree number) ++ l) (over-statements others)
 
 pub walk-expressions : (pools : Pools) → IsProgram pools
-    → map (tree_at (trees pools.numbers pools.nodes)) (walk pools) ≡ flat_map subexpressions_of (tree_of pools)
+    → map (tree_at (trees pools.numbers pools.nodes)) (walk pools) ≡ flat_map subexpressions_of (tree_of pools).statements
 walk-expressions pools program =
     over pools.numbers pools.nodes program.ordered (node.Iota (pos 0)) (length pools.nodes) (omega arith) (flat_map nodes_of pools.statements)
     (roots-below (length pools.nodes) pools.statements program.nodes_there)

@@ -1,13 +1,16 @@
 -- Each text of the grammar leaves nothing wanted, so what gets stuck begins no text; and no expression is deeper than its want says.
 use Rattle.std.proofs.Common.{◌≡◌, ℕ, suc, ◌+◌, Bool, true, false, List, [], ◌∷◌, ◌++◌, refl, sym, ap, ◌∙◌, subst, append_assoc, arith}
 use Rattle.std.specs.Prelude.{◌&&◌, not, ◌==◌, ℤ, if◌then◌else◌}
+use Rattle.std.specs.Option.{is_some}
 use Rattle.std.proofs.lemmas.List.Sums.{fold-append}
 use Rattle.text_tokens.specs.declared.token.Sign.TheVariants as sign
+use Rattle.moa_tree.specs.declared.tree.Version.{Version}
 pub use Rattle.moa_tree.specs.Expected.{Want, after, at_start, next, stuck, wanted_depth}
 use Rattle.moa_tree.specs.Expr.{Expr, Item, Tree}
 use Rattle.moa_tree.specs.Readings.{Prefix, PrefixOfTwo, ReadsExpr, ReadsItem, ReadsItems, ReadsProgram, has_output, number_lexemes}
 use Rattle.moa_tree.specs.Refusals.{BeginsAt, BeginsWithin, IsFront, IsTooDeep, is_definition}
-use Rattle.moa_tree.specs.Vocabulary.{Lexeme, is_fold}
+use Rattle.moa_tree.specs.Vocabulary.{Lexeme, is_fold, version_number}
+use Rattle.moa_tree.proofs.VersionLemmas.{numbered}
 
 pub chosen : (test : Bool) (wants others : List Want) → test ≡ true → (if test then wants else others) ≡ wants
 chosen true wants others h = refl
@@ -74,18 +77,18 @@ ends_items Lexeme.End = true
 ends_items _ = false
 
 -- whether an output was seen, after these statements too
-abbrev pub seen_after : Bool → Tree → Bool
+abbrev pub seen_after : Bool → List Item → Bool
 seen_after seen [] = seen
 seen_after seen (Item.Output name of ∷ others) = seen_after true others
 seen_after seen (_ ∷ others) = seen_after seen others
 
-seen_stays : (tree : Tree) → seen_after true tree ≡ true
+seen_stays : (tree : List Item) → seen_after true tree ≡ true
 seen_stays [] = refl
 seen_stays (Item.Input name extents ∷ others) = seen_stays others
 seen_stays (Item.Let name of ∷ others) = seen_stays others
 seen_stays (Item.Output name of ∷ others) = seen_stays others
 
-output_seen : (tree : Tree) → has_output tree ≡ true → seen_after false tree ≡ true
+output_seen : (tree : List Item) → has_output tree ≡ true → seen_after false tree ≡ true
 output_seen [] h = h
 output_seen (Item.Input name extents ∷ others) h = output_seen others h
 output_seen (Item.Let name of ∷ others) h = output_seen others h
@@ -97,7 +100,7 @@ extents_end : (last : Lexeme) → ends_items last ≡ true → (seen : Bool) (wa
 extents_end (Lexeme.Number value) h seen wants rest = absurd (cc h)
 extents_end _ h seen wants rest = refl
 
-extents_items : (levels : ℕ) (lexemes : List Lexeme) (tree : Tree) → ReadsItems levels lexemes tree
+extents_items : (levels : ℕ) (lexemes : List Lexeme) (tree : List Item) → ReadsItems levels lexemes tree
     → (last : Lexeme) → ends_items last ≡ true → (seen : Bool) (wants : List Want) (rest : List Lexeme)
     → after (Want.Extents seen ∷ wants) (lexemes ++ last ∷ rest) ≡ after (Want.Items seen ∷ wants) (lexemes ++ last ∷ rest)
 extents_items levels lexemes tree (ReadsItems.none l) last h seen wants rest = extents_end last h seen wants rest
@@ -105,7 +108,7 @@ extents_items levels lexemes tree (ReadsItems.more l first others item items (Re
 extents_items levels lexemes tree (ReadsItems.more l first others item items (ReadsItem.«let» k name of e reads_e) reads) last h seen wants rest = refl
 extents_items levels lexemes tree (ReadsItems.more l first others item items (ReadsItem.output k name of e reads_e) reads) last h seen wants rest = refl
 
-pub after_items : (levels : ℕ) (lexemes : List Lexeme) (tree : Tree) → ReadsItems levels lexemes tree
+pub after_items : (levels : ℕ) (lexemes : List Lexeme) (tree : List Item) → ReadsItems levels lexemes tree
     → (last : Lexeme) → ends_items last ≡ true → (seen : Bool) (wants : List Want) (rest : List Lexeme)
     → after (Want.Items seen ∷ wants) (lexemes ++ last ∷ rest) ≡ after (Want.Items (seen_after seen tree) ∷ wants) (last ∷ rest)
 after_items levels lexemes tree (ReadsItems.none l) last h seen wants rest = refl
@@ -123,11 +126,18 @@ after_items levels lexemes tree (ReadsItems.more l first others item items (Read
     ∙ after_expr l of e reads_e 1 (Want.Items true ∷ wants) (others ++ last ∷ rest)
     ∙ after_items l others items reads last h true wants rest
 
+-- statements are wanted behind the number of a version
+pub after_version : (version : Version) (rest : List Lexeme)
+    → after at_start (Lexeme.Psi ∷ Lexeme.Number (version_number version) ∷ rest) ≡ after (Want.Items false ∷ []) rest
+after_version version rest =
+    ap (λ found. after (if is_some found then Want.Items false ∷ [] else stuck) rest) (numbered version)
+
 -- each text of the grammar is accepted
 pub after_program : (levels : ℕ) (lexemes : List Lexeme) (tree : Tree) → ReadsProgram levels lexemes tree → after at_start lexemes ≡ []
 after_program levels lexemes tree (ReadsProgram.program l statements items reads h) =
-    after_items l statements items reads Lexeme.End refl false [] []
-    ∙ chosen (seen_after false items) [] stuck (output_seen items h)
+    after_version items.version (statements ++ Lexeme.End ∷ [])
+    ∙ after_items l statements items.statements reads Lexeme.End refl false [] []
+    ∙ chosen (seen_after false items.statements) [] stuck (output_seen items.statements h)
 
 pub after_stuck : (lexemes : List Lexeme) → after stuck lexemes ≡ stuck
 after_stuck [] = refl
@@ -174,14 +184,20 @@ ends_definition Lexeme.Out h = refl
 ends_definition _ h = absurd (cc h)
 
 pub depth_at : (depth : ℕ) (lexemes : List Lexeme) → BeginsAt depth lexemes → wanted_depth (after at_start lexemes) ≡ depth
-depth_at depth lexemes (BeginsAt.statement levels deeper statements tree word name inner reads h begins) =
-    ap wanted_depth (after_items levels statements tree reads word (ends_definition word h) false [] (Lexeme.Name name ∷ Lexeme.Sign sign.Equal ∷ inner))
+depth_at depth lexemes (BeginsAt.statement version levels deeper statements tree word name inner reads h begins) =
+    ap wanted_depth (after_version version (statements ++ word ∷ Lexeme.Name name ∷ Lexeme.Sign sign.Equal ∷ inner)
+    ∙ after_items levels statements tree reads word (ends_definition word h) false [] (Lexeme.Name name ∷ Lexeme.Sign sign.Equal ∷ inner))
     ∙ depth_statement word h name deeper inner begins (seen_after false tree)
 
 -- none of these is an expression that stands too deep
 abbrev pub is_shallow : List Want → List Lexeme → Bool
 is_shallow wants [] = true
 is_shallow wants (lexeme ∷ others) = not (wanted_depth wants == 129) && is_shallow (next wants lexeme) others
+
+pub shallow_version : (version : Version) (rest : List Lexeme)
+    → is_shallow at_start (Lexeme.Psi ∷ Lexeme.Number (version_number version) ∷ rest) ≡ is_shallow (Want.Items false ∷ []) rest
+shallow_version version rest =
+    ap (λ found. is_shallow (if is_some found then Want.Items false ∷ [] else stuck) rest) (numbered version)
 
 pub both : (a b : Bool) → (a && b) ≡ true → (a ≡ true) × (b ≡ true)
 both true b h = (refl, h)

@@ -1,13 +1,14 @@
 -- The canonical text of a program: one line a statement, no parentheses, a blank between two lexemes but after `<` and before `>`.
 -- This project's own.
-use Rattle.std.specs.Prelude.{ℕ, zero, suc, ◌&&◌, not, IsTrue, FitsSigned, List, [], ◌∷◌, ◌++◌, codes, pos}
+use Rattle.std.specs.Prelude.{ℕ, zero, suc, ◌&&◌, not, IsTrue, FitsSigned, List, [], ◌∷◌, ◌++◌, codes}
 use Rattle.std.specs.Int.{w64}
 use Rattle.std.specs.List.{AllByRecursion, flat_map}
 use Rattle.shapes_core.specs.Name.{is_name}
 use Rattle.text_tokens.specs.declared.token.Sign.TheVariants as sign
+use Rattle.moa_tree.specs.declared.tree.Version.{Version}
 use Rattle.moa_tree.specs.Expr.{Expr, Item, Tree}
 use Rattle.moa_tree.specs.Readings.{deepest, list_lexemes, number_lexemes}
-use Rattle.moa_tree.specs.Vocabulary.{Lexeme, is_fold, is_reserved, spelling}
+use Rattle.moa_tree.specs.Vocabulary.{Lexeme, is_fold, is_reserved, spelling, version_number}
 
 -- an expression without parentheses
 abbrev pub expr_lexemes : Expr → List Lexeme
@@ -48,17 +49,18 @@ line (last ∷ []) = spelling last ++ codes "\n"
 line (first ∷ second ∷ others) = spelling first ++ (between first second ++ line (second ∷ others))
 
 abbrev pub canonical : Tree → List ℕ
-canonical tree = line (Lexeme.Psi ∷ Lexeme.Number (pos 1) ∷ []) ++ flat_map (λ item. line (item_lexemes item)) tree
+canonical tree =
+    line (Lexeme.Psi ∷ Lexeme.Number (version_number tree.version) ∷ []) ++ flat_map (λ item. line (item_lexemes item)) tree.statements
 
--- a lexeme that has a spelling: a name is a word that is not reserved, a number has 64 bits
-abbrev pub IsSpelled : Lexeme → Type 0
-IsSpelled (Lexeme.Name name) = IsTrue (is_name name && not (is_reserved name))
-IsSpelled (Lexeme.Number value) = FitsSigned w64 value
-IsSpelled Lexeme.Malformed = ⊥
-IsSpelled Lexeme.OutOfRange = ⊥
-IsSpelled Lexeme.LongWord = ⊥
-IsSpelled Lexeme.End = ⊥
-IsSpelled _ = Unit {0}
+-- a lexeme that has a spelling in a version: a name is a word that is not reserved, a number has 64 bits
+abbrev pub IsSpelled : Version → Lexeme → Type 0
+IsSpelled version (Lexeme.Name name) = IsTrue (is_name name && not (is_reserved version name))
+IsSpelled version (Lexeme.Number value) = FitsSigned w64 value
+IsSpelled version Lexeme.Malformed = ⊥
+IsSpelled version Lexeme.OutOfRange = ⊥
+IsSpelled version Lexeme.LongWord = ⊥
+IsSpelled version Lexeme.End = ⊥
+IsSpelled version _ = Unit {0}
 
 -- an expression that stands within so many levels, and folds by operators that fold
 abbrev pub IsBuilt : ℕ → Expr → Type 0
@@ -88,7 +90,7 @@ IsBuiltItem (Item.Input name extents) = Unit {0}
 IsBuiltItem (Item.Let name of) = IsBuilt deepest of
 IsBuiltItem (Item.Output name of) = IsBuilt deepest of
 
--- a statement that some text has
-pub record IsWritable (item : Item) : Type 0 where
+-- a statement that some text of the version has
+pub record IsWritable (version : Version) (item : Item) : Type 0 where
   pub built : IsBuiltItem item
-  pub spelled : AllByRecursion IsSpelled (item_lexemes item)
+  pub spelled : AllByRecursion (IsSpelled version) (item_lexemes item)

@@ -35,7 +35,7 @@ after inputs env (Let name of) = (name, computed env of) ∷ env
 after inputs env (Output name of) = (name, stored (shape_in env of) (output_list env of)) ∷ env
 
 -- the names after these statements
-abbrev pub after_all : Store → Env → Tree → Env
+abbrev pub after_all : Store → Env → List Item → Env
 after_all inputs env items = fold (after inputs) env items
 
 -- the outputs of one statement
@@ -45,13 +45,13 @@ outputs_of env (Let name of) = []
 outputs_of env (Output name of) = (name, output_list env of) ∷ []
 
 -- the outputs of these statements, in order
-abbrev pub denote_from : Store → Env → Tree → Store
+abbrev pub denote_from : Store → Env → List Item → Store
 denote_from inputs env [] = []
 denote_from inputs env (item ∷ items) = outputs_of env item ++ denote_from inputs (after inputs env item) items
 
 -- the outputs of a program on its inputs, in order
 abbrev pub denote : Tree → Store → Store
-denote tree inputs = denote_from inputs [] tree
+denote tree inputs = denote_from inputs [] tree.statements
 
 -- the scans of one statement
 abbrev pub scans_of : Item → List Expr
@@ -60,10 +60,10 @@ scans_of (Let name of) = scans_in of
 scans_of (Output name of) = scans_in of
 
 -- the lists of the scans of these statements, in order
-abbrev pub denote_scans_from : Store → Env → Tree → List (List ℤ)
+abbrev pub denote_scans_from : Store → Env → List Item → List (List ℤ)
 denote_scans_from inputs env [] = []
 denote_scans_from inputs env (item ∷ items) = map (values env) (scans_of item) ++ denote_scans_from inputs (after inputs env item) items
 
 -- the denoted list of each scan of a program, by its number
 abbrev pub denote_scans : Tree → Store → List (List ℤ)
-denote_scans tree inputs = denote_scans_from inputs [] tree
+denote_scans tree inputs = denote_scans_from inputs [] tree.statements

@@ -1,9 +1,10 @@
 -- What is wanted next behind some lexemes, as a stack that is carried from the left: it decides what a front is. This project's own.
-use Rattle.std.specs.Prelude.{ℕ, zero, suc, Bool, true, false, List, [], ◌∷◌, pos, if◌then◌else◌}
+use Rattle.std.specs.Prelude.{ℕ, suc, Bool, true, false, List, [], ◌∷◌, if◌then◌else◌}
 use Rattle.std.specs.List.{fold}
+use Rattle.std.specs.Option.{is_some}
 use Rattle.text_tokens.specs.declared.token.Sign.TheVariants as sign
 use Rattle.moa_tree.specs.Refusals.{is_end}
-use Rattle.moa_tree.specs.Vocabulary.{Lexeme, is_fold}
+use Rattle.moa_tree.specs.Vocabulary.{Lexeme, is_fold, version_numbered}
 
 pub data Want : Type 0 where
   Version VersionNumber : Want
@@ -33,7 +34,7 @@ on_version wants Lexeme.Psi = wants
 on_version wants _ = stuck
 
 abbrev pub on_version_number : List Want → Lexeme → List Want
-on_version_number wants (Lexeme.Number (pos (suc zero))) = wants
+on_version_number wants (Lexeme.Number value) = if is_some (version_numbered value) then wants else stuck
 on_version_number wants _ = stuck
 
 abbrev pub on_equal : List Want → Lexeme → List Want

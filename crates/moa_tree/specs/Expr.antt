@@ -3,6 +3,7 @@
 use Rattle.std.specs.Prelude.{ℕ, ℤ, List}
 use Rattle.moa_tree.specs.declared.operator.Op.{Op}
 use Rattle.moa_tree.specs.declared.operator.Unary.{Unary}
+use Rattle.moa_tree.specs.declared.tree.Version.{Version}
 
 pub data Expr : Type 0 where
   Number : (value : ℤ) → Expr
@@ -31,6 +32,7 @@ pub data Item : Type 0 where
   Let : (name : List ℕ) → (of : Expr) → Item
   Output : (name : List ℕ) → (of : Expr) → Item
 
--- a program is its statements in order
-abbrev pub Tree : Type 0
-Tree = List Item
+-- a program: the version of the language that it is written in, and its statements in order
+pub record Tree : Type 0 where
+  pub version : Version
+  pub statements : List Item

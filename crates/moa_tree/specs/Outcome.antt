@@ -9,7 +9,7 @@ use Rattle.moa_tree.specs.Expected.{Want, at_start, cause_of, next, wanted_depth
 use Rattle.moa_tree.specs.Expr.{Tree}
 use Rattle.moa_tree.specs.Readings.{deepest}
 use Rattle.moa_tree.specs.Trees.{statements_in}
-use Rattle.moa_tree.specs.Vocabulary.{Lexeme, lexeme_of, lexemes}
+use Rattle.moa_tree.specs.Vocabulary.{Lexeme, lexeme_of, lexemes, version_of}
 
 -- a text is read as this tree, or it is refused
 pub data Outcome : Type 0 where
@@ -40,8 +40,12 @@ refused_or (Some cause) position outcome = Outcome.Refused position cause
 abbrev pub outcome_from : Tree → List Want → List (Token × Position) → Outcome
 outcome_from tree wants [] = Outcome.Read tree
 outcome_from tree wants (first ∷ others) =
-    let lexeme = lexeme_of first.0 in
+    let lexeme = lexeme_of tree.version first.0 in
     refused_or (refusal wants lexeme) first.1 (outcome_from tree (next wants lexeme) others)
 
+-- the program that is found in a text
+abbrev pub tree_in : List ℕ → Tree
+tree_in text = record { version = version_of text; statements = statements_in deepest (lexemes (version_of text) text) }
+
 abbrev pub outcome_of : List ℕ → Outcome
-outcome_of text = outcome_from (statements_in deepest (lexemes text)) at_start (tokens start text)
+outcome_of text = outcome_from (tree_in text) at_start (tokens start text)

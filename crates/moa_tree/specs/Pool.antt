@@ -6,7 +6,7 @@ use Rattle.moa_tree.specs.declared.tree.Node.TheVariants as node
 use Rattle.moa_tree.specs.declared.tree.Numbers.{Numbers}
 use Rattle.moa_tree.specs.declared.tree.Statement.{Statement}
 use Rattle.moa_tree.specs.declared.tree.Statement.TheVariants as statement
-use Rattle.moa_tree.specs.Expr.{Expr, Number, Use, Iota, One, Two, Psi, Take, Drop, Reverse, Rotate, Transpose, Permute, Cat, Reshape, Ravel, Outer, Inner, Reduce, Scan, Item, Input, Let, Output, Tree}
+use Rattle.moa_tree.specs.Expr.{Expr, Number, Use, Iota, One, Two, Psi, Take, Drop, Reverse, Rotate, Transpose, Permute, Cat, Reshape, Ravel, Outer, Inner, Reduce, Scan, Item, Input, Let, Output}
 
 -- some numbers of a pool, one behind the other
 abbrev pub list_at : List ℤ → Numbers → List ℤ
@@ -57,9 +57,9 @@ item_of pool trees (statement.Input name extents at) = Input name (list_at pool 
 item_of pool trees (statement.Name name number at) = Let name (tree_at trees number)
 item_of pool trees (statement.Output name number at) = Output name (tree_at trees number)
 
--- the program for which the pools and the statements stand
-abbrev pub program_tree : List ℤ → List Node → List Statement → Tree
-program_tree pool nodes statements = map (item_of pool (trees pool nodes)) statements
+-- the statements of a program over its pools
+abbrev pub items_of : List ℤ → List Node → List Statement → List Item
+items_of pool nodes statements = map (item_of pool (trees pool nodes)) statements
 
 -- the nodes on which a node works, in order
 abbrev pub operands : Node → List ℕ

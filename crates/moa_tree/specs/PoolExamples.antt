@@ -8,6 +8,7 @@ use Rattle.moa_tree.specs.declared.operator.Unary.TheVariants as unary
 use Rattle.moa_tree.specs.declared.tree.Node.{Node}
 use Rattle.moa_tree.specs.declared.tree.Node.TheVariants as node
 use Rattle.moa_tree.specs.declared.tree.Statement.TheVariants as statement
+use Rattle.moa_tree.specs.declared.tree.Version.TheVariants.{First}
 use Rattle.moa_tree.specs.Pools.{Pools}
 
 -- a position by its line and its column
@@ -17,6 +18,7 @@ placed line column = record { line = line; column = column }
 -- those of a text of three lines: `psi 1`, `in A 2` and `out C = take <1> A`
 abbrev pub small : Pools
 small = record {
+  version = First;
   nodes = node.Use (codes "A") ∷ node.Take (record { start = 1; count = 1 }) 0 ∷ [];
   positions = placed 3 18 ∷ placed 3 9 ∷ [];
   numbers = pos 2 ∷ pos 1 ∷ [];
@@ -52,6 +54,7 @@ one_list_twice = record small { nodes = node.Use (codes "A") ∷ node.Take (reco
 -- Those of `in A 2`, `let P = sub (neg A) 1` and `out C = cat P (P)`, where nodes stand in another order than in the text.
 abbrev pub three_statements : Pools
 three_statements = record {
+  version = First;
   nodes = node.Number (pos 1) ∷ node.Use (codes "A") ∷ node.One unary.Neg 1 ∷ node.Two op.Sub 2 0 ∷ node.Use (codes "P") ∷ node.Use (codes "P") ∷ node.Cat 5 4 ∷ [];
   positions = placed 3 21 ∷ placed 3 18 ∷ placed 3 14 ∷ placed 3 9 ∷ placed 4 16 ∷ placed 4 13 ∷ placed 4 9 ∷ [];
   numbers = pos 2 ∷ [];

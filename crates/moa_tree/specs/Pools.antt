@@ -7,13 +7,15 @@ use Rattle.moa_tree.specs.declared.tree.Node.TheVariants as node
 use Rattle.moa_tree.specs.declared.tree.Numbers.{Numbers}
 use Rattle.moa_tree.specs.declared.tree.Statement.{Statement}
 use Rattle.moa_tree.specs.declared.tree.Statement.TheVariants as statement
+use Rattle.moa_tree.specs.declared.tree.Version.{Version}
 use Rattle.moa_tree.specs.Canonical.{canonical}
 use Rattle.moa_tree.specs.Expr.{Tree}
-use Rattle.moa_tree.specs.Pool.{IsOrdered, operands, program_tree, walk_of}
+use Rattle.moa_tree.specs.Pool.{IsOrdered, items_of, operands, walk_of}
 use Rattle.moa_tree.specs.Readings.{Reads}
 
--- the nodes with the position of each, the numbers of the lists, and the statements
+-- the version, the nodes with the position of each, the numbers of the lists, and the statements
 pub record Pools : Type 0 where
+  pub version : Version
   pub nodes : List Node
   pub positions : List Position
   pub numbers : List ℤ
@@ -21,7 +23,7 @@ pub record Pools : Type 0 where
 
 -- the program for which they stand
 abbrev pub tree_of : Pools → Tree
-tree_of pools = program_tree pools.numbers pools.nodes pools.statements
+tree_of pools = record { version = pools.version; statements = items_of pools.numbers pools.nodes pools.statements }
 
 -- the lists of a node
 abbrev pub lists_of : Node → List Numbers

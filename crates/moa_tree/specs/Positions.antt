@@ -6,15 +6,17 @@ use Rattle.text_tokens.specs.declared.token.Token.{Token}
 use Rattle.text_tokens.specs.Tokens.{start, tokens}
 use Rattle.moa_tree.specs.declared.tree.Statement.{Statement}
 use Rattle.moa_tree.specs.declared.tree.Statement.TheVariants as statement
+use Rattle.moa_tree.specs.declared.tree.Version.{Version}
 use Rattle.moa_tree.specs.Expected.{Want, at_start, next}
 use Rattle.moa_tree.specs.Pools.{Pools, walk}
-use Rattle.moa_tree.specs.Vocabulary.{Lexeme, lexeme_of}
+use Rattle.moa_tree.specs.Vocabulary.{Lexeme, lexeme_of, version_of}
 
--- where those tokens stand that pass a test, which sees what is wanted before the token
-abbrev pub places : (List Want → Lexeme → Bool) → List Want → List (Token × Position) → List Position
-places test wants [] = []
-places test wants (first ∷ others) =
-    (if test wants (lexeme_of first.0) then first.1 ∷ [] else []) ++ places test (next wants (lexeme_of first.0)) others
+-- where those tokens of a version stand that pass a test, which sees what is wanted before the token
+abbrev pub places : Version → (List Want → Lexeme → Bool) → List Want → List (Token × Position) → List Position
+places version test wants [] = []
+places version test wants (first ∷ others) =
+    let lexeme = lexeme_of version first.0 in
+    (if test wants lexeme then first.1 ∷ [] else []) ++ places version test (next wants lexeme) others
 
 -- an expression is wanted and begins, in no parentheses of its own
 abbrev pub begins_expression : List Want → Lexeme → Bool
@@ -29,11 +31,11 @@ is_statement_name _ _ = false
 
 -- where each expression of a text stands: its word or its number
 abbrev pub expression_positions : List ℕ → List Position
-expression_positions text = places begins_expression at_start (tokens start text)
+expression_positions text = places (version_of text) begins_expression at_start (tokens start text)
 
 -- where the name of each statement stands
 abbrev pub name_positions : List ℕ → List Position
-name_positions text = places is_statement_name at_start (tokens start text)
+name_positions text = places (version_of text) is_statement_name at_start (tokens start text)
 
 -- the position that a statement has
 abbrev pub position_of : Statement → Position

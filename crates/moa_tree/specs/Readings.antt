@@ -1,13 +1,13 @@
 -- The grammar, over whole lists: one case for each form, which gives all its lexemes. This project's own.
 -- A reading is counted in levels: an expression on the last level has no operands. A text may use 128.
-use Rattle.std.specs.Prelude.{ℕ, suc, Bool, true, false, IsTrue, List, [], ◌∷◌, ◌++◌, map, ℤ, pos}
+use Rattle.std.specs.Prelude.{ℕ, suc, Bool, true, false, IsTrue, List, [], ◌∷◌, ◌++◌, map, ℤ}
 use Rattle.text_tokens.specs.declared.token.Sign.TheVariants as sign
 use Rattle.moa_tree.specs.declared.operator.Op.{Op}
 use Rattle.moa_tree.specs.declared.operator.Unary.{Unary}
 use Rattle.moa_tree.specs.Expr.{Expr, Item, Tree}
-use Rattle.moa_tree.specs.Vocabulary.{Lexeme, is_fold, lexemes}
+use Rattle.moa_tree.specs.Vocabulary.{Lexeme, is_fold, lexemes, version_number}
 
-abbrev pub has_output : Tree → Bool
+abbrev pub has_output : List Item → Bool
 has_output [] = false
 has_output (Item.Output name of ∷ others) = true
 has_output (_ ∷ others) = has_output others
@@ -63,20 +63,21 @@ pub data ReadsItem : ℕ → List Lexeme → Item → Type 0 where
       → ReadsItem levels (Lexeme.Out ∷ Lexeme.Name name ∷ Lexeme.Sign sign.Equal ∷ of) (Item.Output name expr)
 
 -- statements, one behind the other
-pub data ReadsItems : ℕ → List Lexeme → Tree → Type 0 where
+pub data ReadsItems : ℕ → List Lexeme → List Item → Type 0 where
   none : (levels : ℕ) → ReadsItems levels [] []
-  more : (levels : ℕ) (first others : List Lexeme) (item : Item) (tree : Tree) → ReadsItem levels first item
-      → ReadsItems levels others tree → ReadsItems levels (first ++ others) (item ∷ tree)
+  more : (levels : ℕ) (first others : List Lexeme) (item : Item) (items : List Item) → ReadsItem levels first item
+      → ReadsItems levels others items → ReadsItems levels (first ++ others) (item ∷ items)
 
 -- the version, statements with at least one output, and the end
 pub data ReadsProgram : ℕ → List Lexeme → Tree → Type 0 where
-  program : (levels : ℕ) (statements : List Lexeme) (tree : Tree) → ReadsItems levels statements tree → IsTrue (has_output tree)
-      → ReadsProgram levels (Lexeme.Psi ∷ Lexeme.Number (pos 1) ∷ (statements ++ Lexeme.End ∷ [])) tree
+  program : (levels : ℕ) (statements : List Lexeme) (tree : Tree) → ReadsItems levels statements tree.statements
+      → IsTrue (has_output tree.statements)
+      → ReadsProgram levels (Lexeme.Psi ∷ Lexeme.Number (version_number tree.version) ∷ (statements ++ Lexeme.End ∷ [])) tree
 
 -- no expression of a text stands deeper than on this level
 abbrev pub deepest : ℕ
 deepest = 128
 
--- the text is this program
+-- the text, by the words of the program's version, is this program
 abbrev pub Reads : List ℕ → Tree → Type 0
-Reads text tree = ReadsProgram deepest (lexemes text) tree
+Reads text tree = ReadsProgram deepest (lexemes tree.version text) tree

@@ -1,13 +1,14 @@
 -- Where a text is refused, and why. It is refused at its first token that no reading could have there. This project's own.
-use Rattle.std.specs.Prelude.{◌≡◌, ℕ, suc, Bool, true, false, IsTrue, List, [], ◌∷◌, ◌++◌, pos}
+use Rattle.std.specs.Prelude.{◌≡◌, ℕ, suc, Bool, true, false, IsTrue, List, [], ◌∷◌, ◌++◌}
 use Rattle.text_tokens.specs.declared.token.Position.{Position}
 use Rattle.text_tokens.specs.declared.token.Sign.TheVariants as sign
 use Rattle.text_tokens.specs.declared.token.Token.{Token}
 use Rattle.text_tokens.specs.Tokens.{start, tokens}
 use Rattle.moa_tree.specs.declared.operator.Op.{Op}
-use Rattle.moa_tree.specs.Expr.{Expr, Tree}
+use Rattle.moa_tree.specs.declared.tree.Version.{Version}
+use Rattle.moa_tree.specs.Expr.{Expr, Item, Tree}
 use Rattle.moa_tree.specs.Readings.{Prefix, PrefixOfTwo, ReadsExpr, ReadsItems, ReadsProgram, deepest}
-use Rattle.moa_tree.specs.Vocabulary.{Lexeme, lexeme_of, lexemes_of}
+use Rattle.moa_tree.specs.Vocabulary.{Lexeme, lexeme_of, lexemes_of, version_number as number_of, version_of}
 
 -- these begin the lexemes of some text of the grammar, however deep it is
 pub data IsFront : List Lexeme → Type 0 where
@@ -36,9 +37,9 @@ is_definition _ = false
 
 -- after these lexemes of a text an expression begins at this depth; that of a statement stands at depth 1
 pub data BeginsAt : ℕ → List Lexeme → Type 0 where
-  statement : (levels deeper : ℕ) (statements : List Lexeme) (tree : Tree) (word : Lexeme) (name : List ℕ) (inner : List Lexeme)
-      → ReadsItems levels statements tree → IsTrue (is_definition word) → BeginsWithin deeper inner
-      → BeginsAt (suc deeper) (Lexeme.Psi ∷ Lexeme.Number (pos 1) ∷ (statements ++ word ∷ Lexeme.Name name ∷ Lexeme.Sign sign.Equal ∷ inner))
+  statement : (version : Version) (levels deeper : ℕ) (statements : List Lexeme) (items : List Item) (word : Lexeme) (name : List ℕ) (inner : List Lexeme)
+      → ReadsItems levels statements items → IsTrue (is_definition word) → BeginsWithin deeper inner
+      → BeginsAt (suc deeper) (Lexeme.Psi ∷ Lexeme.Number (number_of version) ∷ (statements ++ word ∷ Lexeme.Name name ∷ Lexeme.Sign sign.Equal ∷ inner))
 
 -- an expression that begins after these stands too deep
 abbrev pub IsTooDeep : List Lexeme → Type 0
@@ -101,13 +102,14 @@ pub data Cause (front : List Lexeme) : Lexeme → ℕ → Type 0 where
   wanted : (next : Lexeme) (cause : ℕ) → is_no_lexeme next ≡ false → (MayFollow front next → ⊥) → Wants front next cause → Cause front next cause
   too_deep : (next : Lexeme) → MayFollow front next → IsTooDeep front → Cause front next 14
 
--- The text is refused at this position with this cause: the tokens before it are a front, and none of them is refused.
+-- The text is refused at this position with this cause: the tokens before it, by the words of its version, are a front, and none of them is
+-- refused.
 pub record IsRefused (text : List ℕ) (position : Position) (cause : ℕ) : Type 0 where
   pub before : List (Token × Position)
   pub token : Token
   pub after : List (Token × Position)
   pub whole : tokens start text ≡ before ++ (token, position) ∷ after
-  pub front : IsFront (lexemes_of before)
-  pub shallow : (earlier : List Lexeme) (next : Lexeme) (later : List Lexeme) → lexemes_of before ≡ earlier ++ next ∷ later
+  pub front : IsFront (lexemes_of (version_of text) before)
+  pub shallow : (earlier : List Lexeme) (next : Lexeme) (later : List Lexeme) → lexemes_of (version_of text) before ≡ earlier ++ next ∷ later
       → IsTooDeep earlier → ⊥
-  pub cause_is : Cause (lexemes_of before) (lexeme_of token) cause
+  pub cause_is : Cause (lexemes_of (version_of text) before) (lexeme_of (version_of text) token) cause

@@ -5,7 +5,7 @@ use Rattle.std.specs.declared.option.Option.{Option}
 use Rattle.std.specs.declared.option.Option.TheVariants.{None, Some}
 use Rattle.text_tokens.specs.declared.token.Sign.TheVariants as sign
 use Rattle.moa_tree.specs.declared.operator.Op.{Op}
-use Rattle.moa_tree.specs.Expr.{Expr, Item, Tree}
+use Rattle.moa_tree.specs.Expr.{Expr, Item}
 use Rattle.moa_tree.specs.Vocabulary.{Lexeme}
 
 -- something, and the lexemes behind it
@@ -99,11 +99,11 @@ item_at levels (Lexeme.Out ∷ rest) =
     name_then (λ name. equal_then (λ behind. and_then (expr_at levels behind) (λ of left. Some (Item.Output name of, left)))) rest
 item_at levels _ = None
 
-abbrev pub statement : Found Item → Tree
+abbrev pub statement : Found Item → List Item
 statement None = []
 statement (Some found) = found.0 ∷ []
 
 -- the statements among these lexemes: each begins with its word, which stands nowhere else
-abbrev pub statements_in : ℕ → List Lexeme → Tree
+abbrev pub statements_in : ℕ → List Lexeme → List Item
 statements_in levels [] = []
 statements_in levels (first ∷ rest) = statement (item_at levels (first ∷ rest)) ++ statements_in levels rest

@@ -27,7 +27,7 @@ pub use reading_laws::{
     reads_again,
 };
 pub use text_tokens::Position;
-pub use tree::{Job, Node, Numbers, Statement};
+pub use tree::{Job, Node, Numbers, Statement, Version};
 pub use tree_examples::{pool_examples, position_examples, program_pools, walk_examples};
 pub use tree_laws::{node_trees, walks_in_order};
 pub use value_examples::{
@@ -35,4 +35,4 @@ pub use value_examples::{
     product_examples, program_examples, scan_examples, unary_examples, view_examples,
 };
 pub use value_laws::{fold_equations, stored_values, values_fit};
-pub use vocabulary_examples::{folds, spellings, words};
+pub use vocabulary_examples::{folds, spellings, versions, words};

@@ -6,7 +6,7 @@ ghost use Rattle.moa_tree.specs.declared.tree.Node.{Node as PoolNode};
 ghost use Rattle.moa_tree.specs.declared.tree.Numbers.{Numbers as PoolNumbers};
 ghost use Rattle.moa_tree.specs.declared.tree.Statement.{Statement as PoolStatement};
 ghost use Rattle.moa_tree.specs.Expr.{Expr};
-ghost use Rattle.moa_tree.specs.Pool.{IsOrdered, expr_of, item_of, list_at, operands, program_tree, tree_at, trees, walk_of};
+ghost use Rattle.moa_tree.specs.Pool.{IsOrdered, expr_of, item_of, items_of, list_at, operands, tree_at, trees, walk_of};
 ghost use Rattle.moa_tree.specs.Pools.{AreThere, IsProgram, Pools, extents_of, lists_of, nodes_of};
 ghost use Rattle.moa_tree.specs.Positions.{positions_at};
 
@@ -87,9 +87,9 @@ pub fn pools_grow()
         → AllByRecursion (λ number. number < length nodes) (nodes_of statement)
         → item_of (numbers ++ more) (trees (numbers ++ more) (nodes ++ others)) statement
         ≡ item_of numbers (trees numbers nodes) statement }
-    ensures program { (numbers more : List ℤ) (nodes others : List PoolNode) (statements : List PoolStatement)
+    ensures statements { (numbers more : List ℤ) (nodes others : List PoolNode) (statements : List PoolStatement)
         → All (λ node. AllByRecursion (AreThere numbers) (lists_of node)) nodes
         → All (λ statement. AllByRecursion (AreThere numbers) (extents_of statement)) statements
         → All (λ statement. AllByRecursion (λ number. number < length nodes) (nodes_of statement)) statements
-        → program_tree (numbers ++ more) (nodes ++ others) statements ≡ program_tree numbers nodes statements }
+        → items_of (numbers ++ more) (nodes ++ others) statements ≡ items_of numbers nodes statements }
 {}

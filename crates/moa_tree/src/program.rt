@@ -3,14 +3,15 @@ ghost use Rattle.std.specs.Prelude.{◌≡◌, ◌+◌, ◌<◌, ◌≤◌, Some
 ghost use Rattle.moa_tree.specs.Pool.{list_at};
 ghost use Rattle.moa_tree.specs.Pools.{AreThere, IsProgram};
 
-use crate::tree::{Node, Numbers, Statement};
+use crate::tree::{Node, Numbers, Statement, Version};
 use std::marker::Model;
 use text_tokens::Position;
 
-/// A program: statements over a pool of nodes, with the position of each, and a pool of numbers. Its canonical
-/// text reads as this program, up to positions and the numbering of the pools.
+/// A program: its version, and its statements over a pool of nodes, with the position of each, and a pool of numbers.
+/// Its canonical text reads as this program, up to positions and the numbering of the pools.
 #[derive(Drop)]
 pub struct Program {
+    version: Version,
     nodes: Vec<Node>,
     positions: Vec<Position>,
     numbers: Vec<i64>,
@@ -22,28 +23,37 @@ impl Model for Program {
 
     ghost Value = { Pools };
 
-    ghost view = { λ p. record { nodes = p.nodes.items; positions = p.positions.items; numbers = p.numbers.items; statements = p.statements.items } };
+    ghost view = { λ p. record { version = p.version; nodes = p.nodes.items; positions = p.positions.items; numbers = p.numbers.items; statements = p.statements.items } };
 
-    ghost invariant = { λ p. IsProgram (record { nodes = p.nodes.items; positions = p.positions.items; numbers = p.numbers.items; statements = p.statements.items }) };
+    ghost invariant = { λ p. IsProgram (record { version = p.version; nodes = p.nodes.items; positions = p.positions.items; numbers = p.numbers.items; statements = p.statements.items }) };
 }
 
 impl Program {
     /// The program of these pools. It takes no memory.
     pub fn new(
+        version: Version,
         nodes: Vec<Node>,
         positions: Vec<Position>,
         numbers: Vec<i64>,
         statements: Vec<Statement>,
     ) -> Program
-        requires { IsProgram (record { nodes = nodes.items; positions = positions.items; numbers = numbers.items; statements = statements.items }) }
-        ensures { result ≡ record { nodes = nodes.items; positions = positions.items; numbers = numbers.items; statements = statements.items } }
+        requires { IsProgram (record { version = version; nodes = nodes.items; positions = positions.items; numbers = numbers.items; statements = statements.items }) }
+        ensures { result ≡ record { version = version; nodes = nodes.items; positions = positions.items; numbers = numbers.items; statements = statements.items } }
     {
         Program {
+            version,
             nodes,
             positions,
             numbers,
             statements,
         }
+    }
+
+    /// The version of the language that the program is written in.
+    pub fn version(&self) -> Version
+        ensures { result ≡ self.now.version }
+    {
+        self.version
     }
 
     /// The statements, in order.

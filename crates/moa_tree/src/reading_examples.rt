@@ -1,7 +1,7 @@
 // Readings and refusals that are worked out from the definition: no body runs.
 ghost use Rattle.std.specs.Prelude.{◌≡◌, ℕ, List, [], ◌∷◌, ◌++◌, codes, replicate, pos, negsuc};
 ghost use Rattle.moa_tree.specs.Canonical.{canonical};
-ghost use Rattle.moa_tree.specs.Examples.{refused};
+ghost use Rattle.moa_tree.specs.Examples.{program, refused};
 ghost use Rattle.moa_tree.specs.Expr.{Expr, Item};
 ghost use Rattle.moa_tree.specs.Outcome.{Outcome, outcome_of};
 
@@ -9,19 +9,19 @@ use crate::operator::{Op, Unary};
 
 /// The sum of two vectors, with comments and carriage returns, and an output at the last level.
 pub fn readings()
-    ensures two_vectors { outcome_of (codes "# the sum\r\npsi 1\r\nin A 3 # <\r\nin B 3\r\nout C = add A B#") ≡ Outcome.Read
+    ensures two_vectors { outcome_of (codes "# the sum\r\npsi 1\r\nin A 3 # <\r\nin B 3\r\nout C = add A B#") ≡ Outcome.Read (program
         (Item.Input (codes "A") (pos 3 ∷ []) ∷ Item.Input (codes "B") (pos 3 ∷ [])
-        ∷ Item.Output (codes "C") (Expr.Two Op.Add (Expr.Use (codes "A")) (Expr.Use (codes "B"))) ∷ []) }
-    ensures deepest { outcome_of (codes "psi 1\nin A\nout C = " ++ (replicate 127 40 ++ (65 ∷ replicate 127 41))) ≡ Outcome.Read
-        (Item.Input (codes "A") [] ∷ Item.Output (codes "C") (Expr.Use (codes "A")) ∷ []) }
+        ∷ Item.Output (codes "C") (Expr.Two Op.Add (Expr.Use (codes "A")) (Expr.Use (codes "B"))) ∷ [])) }
+    ensures deepest { outcome_of (codes "psi 1\nin A\nout C = " ++ (replicate 127 40 ++ (65 ∷ replicate 127 41))) ≡ Outcome.Read (program
+        (Item.Input (codes "A") [] ∷ Item.Output (codes "C") (Expr.Use (codes "A")) ∷ [])) }
 {}
 
 /// A program and its canonical text.
 pub fn canonical_text()
-    ensures { canonical (Item.Input (codes "A") (pos 2 ∷ pos 3 ∷ [])
+    ensures { canonical (program (Item.Input (codes "A") (pos 2 ∷ pos 3 ∷ [])
         ∷ Item.Let (codes "B") (Expr.Take (pos 1 ∷ negsuc 0 ∷ []) (Expr.Use (codes "A")))
         ∷ Item.Output (codes "C") (Expr.Inner Op.Max Op.Sub (Expr.Reshape [] (Expr.One Unary.Neg (Expr.Iota (pos 1))))
-        (Expr.Rotate (negsuc 4) (Expr.Use (codes "B")))) ∷ [])
+        (Expr.Rotate (negsuc 4) (Expr.Use (codes "B")))) ∷ []))
         ≡ codes "psi 1\nin A 2 3\nlet B = take <1 -1> A\nout C = inner max sub reshape <> neg iota 1 rotate -5 B\n" }
 {}
 

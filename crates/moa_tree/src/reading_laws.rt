@@ -65,7 +65,8 @@ pub fn never_both()
 
 /// The canonical text of a program reads as that program.
 pub fn canonical_reads()
-    ensures { (tree : Tree) → AllByRecursion IsWritable tree → IsTrue (has_output tree) → Reads (canonical tree) tree }
+    ensures { (tree : Tree) → AllByRecursion (IsWritable tree.version) tree.statements → IsTrue (has_output tree.statements)
+        → Reads (canonical tree) tree }
 {
     printed_names();
     printed_numbers();
@@ -73,7 +74,8 @@ pub fn canonical_reads()
 
 /// What a text is read as, its canonical text is read as.
 pub fn reads_again()
-    ensures writable { (text : List ℕ) (tree : Tree) → Reads text tree → AllByRecursion IsWritable tree × IsTrue (has_output tree) }
+    ensures writable { (text : List ℕ) (tree : Tree) → Reads text tree
+        → AllByRecursion (IsWritable tree.version) tree.statements × IsTrue (has_output tree.statements) }
     ensures again { (text : List ℕ) (tree : Tree) → Reads text tree → Reads (canonical tree) tree }
 {
     values_fit();

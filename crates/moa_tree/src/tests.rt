@@ -30,7 +30,8 @@ fn a_program_gives_its_parts(rt: HostRuntime) -> Result<(), Fail> {
     };
     let statements = vec![in rt.alloc(); input, output]?;
     canonical_reads();
-    let program = Program::new(nodes, positions, numbers, statements);
+    let program = Program::new(Version::First, nodes, positions, numbers, statements);
+    assert_eq!(rt; program.version(), Version::First);
     assert_eq!(rt; program.statements().len(), 2);
     assert_eq!(rt; program.position(1).column, 9);
     assert!(rt; matches!(program.node(1), Node::Take { .. }));
@@ -116,5 +117,14 @@ fn identities_of_the_operators_that_fold(rt: HostRuntime) {
         (Op::Le, None),
     ] {
         assert_eq!(rt; identity(op), wanted, "{op:?}");
+    }
+}
+
+#[test]
+fn versions_by_their_numbers(rt: HostRuntime) {
+    assert_eq!(rt; Version::First.number(), 1);
+    assert_eq!(rt; Version::numbered(1), Some(Version::First));
+    for number in [i64::MIN, -1, 0, 2, i64::MAX] {
+        assert_eq!(rt; Version::numbered(number), None, "{number}");
     }
 }

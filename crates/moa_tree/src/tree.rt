@@ -1,7 +1,37 @@
 // Programs as pools: nodes and numbers that are named by where they stand.
+ghost use Rattle.std.specs.Prelude.{◌≡◌};
+ghost use Rattle.moa_tree.specs.Vocabulary.{version_number, version_numbered};
+
 use crate::operator::{Op, Unary};
 use shapes_core::Name;
 use text_tokens::Position;
+
+/// The versions of the language, which the first line of a program names: `psi 1`.
+#[derive(Clone, Copy, Debug, PartialEq, Eq)]
+pub enum Version {
+    First,
+}
+
+impl Version {
+    /// The number that stands in the first line of a program.
+    pub fn number(self) -> i64
+        ensures value { result ≡ version_number self }
+    {
+        match self {
+            Version::First => 1,
+        }
+    }
+
+    /// The version of this number, if there is one.
+    pub fn numbered(number: i64) -> Option<Version>
+        ensures value { result ≡ version_numbered number }
+    {
+        match number {
+            1 => Some(Version::First),
+            _ => None,
+        }
+    }
+}
 
 /// Some numbers of a pool, one behind the other.
 #[derive(Clone, Copy)]

@@ -25,5 +25,5 @@ pub fn walks_in_order()
     ensures within { (pools : Pools) → IsProgram pools
         → AllByRecursion (λ number. number < length pools.nodes) (walk pools) }
     ensures expressions { (pools : Pools) → IsProgram pools
-        → map (tree_at (trees pools.numbers pools.nodes)) (walk pools) ≡ flat_map subexpressions_of (tree_of pools) }
+        → map (tree_at (trees pools.numbers pools.nodes)) (walk pools) ≡ flat_map subexpressions_of (tree_of pools).statements }
 {}

@@ -5,7 +5,7 @@ ghost use Rattle.moa_tree.specs.Denotation.{denote, denote_scans, scans_of};
 ghost use Rattle.moa_tree.specs.Axes.{joined, mirrored, on_axis, own_index, restored};
 ghost use Rattle.moa_tree.specs.Folds.{fold_along, fold_until};
 ghost use Rattle.moa_tree.specs.Values.{either_part, element};
-ghost use Rattle.moa_tree.specs.Examples.{a, b, numbers, array, with_one, with_two, alone};
+ghost use Rattle.moa_tree.specs.Examples.{a, b, numbers, array, program, with_one, with_two, alone};
 
 use crate::operator::{Op, Unary};
 
@@ -156,28 +156,28 @@ pub fn axis_examples()
 
 /// Several statements: names, outputs that later expressions read, and the lists of scans.
 pub fn program_examples()
-    ensures quotient_edges { denote (Input (codes "A") (numbers "3") ∷ Input (codes "B") (numbers "3")
-        ∷ Output (codes "Q") (Two Op.Quot a b) ∷ Output (codes "R") (Two Op.Rem a b) ∷ [])
+    ensures quotient_edges { denote (program (Input (codes "A") (numbers "3") ∷ Input (codes "B") (numbers "3")
+        ∷ Output (codes "Q") (Two Op.Quot a b) ∷ Output (codes "R") (Two Op.Rem a b) ∷ []))
         ((codes "A", numbers "7 -9223372036854775808 -7") ∷ (codes "B", numbers "0 -1 2") ∷ [])
         ≡ (codes "Q", numbers "-1 -9223372036854775808 -3") ∷ (codes "R", numbers "7 0 -1") ∷ [] }
-    ensures scan_used_twice { denote (Input (codes "A") (numbers "4") ∷ Let (codes "P") (Scan Op.Add a)
-        ∷ Output (codes "C") (Two Op.Add (Use (codes "P")) (Use (codes "P"))) ∷ [])
+    ensures scan_used_twice { denote (program (Input (codes "A") (numbers "4") ∷ Let (codes "P") (Scan Op.Add a)
+        ∷ Output (codes "C") (Two Op.Add (Use (codes "P")) (Use (codes "P"))) ∷ []))
         ((codes "A", numbers "1 2 3 4") ∷ [])
         ≡ (codes "C", numbers "2 6 12 20") ∷ [] }
-    ensures scan_counts_once { denote_scans (Input (codes "A") (numbers "4") ∷ Let (codes "P") (Scan Op.Add a)
-        ∷ Output (codes "C") (Two Op.Add (Use (codes "P")) (Use (codes "P"))) ∷ [])
+    ensures scan_counts_once { denote_scans (program (Input (codes "A") (numbers "4") ∷ Let (codes "P") (Scan Op.Add a)
+        ∷ Output (codes "C") (Two Op.Add (Use (codes "P")) (Use (codes "P"))) ∷ []))
         ((codes "A", numbers "1 2 3 4") ∷ [])
         ≡ numbers "1 3 6 10" ∷ [] }
-    ensures let_used_twice { denote (Input (codes "A") (numbers "2 2") ∷ Let (codes "P") (Transpose a)
-        ∷ Output (codes "C") (Two Op.Sub (Reverse (Use (codes "P"))) (Use (codes "P"))) ∷ [])
+    ensures let_used_twice { denote (program (Input (codes "A") (numbers "2 2") ∷ Let (codes "P") (Transpose a)
+        ∷ Output (codes "C") (Two Op.Sub (Reverse (Use (codes "P"))) (Use (codes "P"))) ∷ []))
         ((codes "A", numbers "1 2 3 4") ∷ [])
         ≡ (codes "C", numbers "1 1 -1 -1") ∷ [] }
-    ensures scan_of_earlier_output { denote (Input (codes "A") (numbers "2 3") ∷ Output (codes "D") (One Unary.Neg a)
-        ∷ Output (codes "C") (Scan Op.Add (Reduce Op.Mul (Use (codes "D")))) ∷ [])
+    ensures scan_of_earlier_output { denote (program (Input (codes "A") (numbers "2 3") ∷ Output (codes "D") (One Unary.Neg a)
+        ∷ Output (codes "C") (Scan Op.Add (Reduce Op.Mul (Use (codes "D")))) ∷ []))
         ((codes "A", numbers "1 2 3 4 5 6") ∷ [])
         ≡ (codes "D", numbers "-1 -2 -3 -4 -5 -6") ∷ (codes "C", numbers "4 14 32") ∷ [] }
-    ensures scans_by_place { denote_scans (Input (codes "A") (numbers "3") ∷ Let (codes "P") (Scan Op.Max (Reverse a))
-        ∷ Output (codes "C") (Cat (Scan Op.Add (Scan Op.Mul a)) (Scan Op.Min a)) ∷ [])
+    ensures scans_by_place { denote_scans (program (Input (codes "A") (numbers "3") ∷ Let (codes "P") (Scan Op.Max (Reverse a))
+        ∷ Output (codes "C") (Cat (Scan Op.Add (Scan Op.Mul a)) (Scan Op.Min a)) ∷ []))
         ((codes "A", numbers "1 2 3") ∷ [])
         ≡ numbers "3 3 3" ∷ numbers "1 3 9" ∷ numbers "1 2 6" ∷ numbers "1 1 1" ∷ [] }
 {}

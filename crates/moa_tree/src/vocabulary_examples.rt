@@ -1,13 +1,22 @@
 // The words of the language, worked out from the definition: no body runs.
-ghost use Rattle.std.specs.Prelude.{◌≡◌, true, false, [], ◌∷◌, codes, map};
+ghost use Rattle.std.specs.Prelude.{◌≡◌, ℤ, Some, true, false, [], ◌∷◌, codes, map, pos};
 ghost use Rattle.text_tokens.specs.declared.token.Sign.TheVariants as sign;
-ghost use Rattle.moa_tree.specs.Vocabulary.{Lexeme, is_fold, is_reserved, reserved, spelling, word_among};
+ghost use Rattle.moa_tree.specs.declared.tree.Version.{Version as LanguageVersion};
+ghost use Rattle.moa_tree.specs.Vocabulary.{Lexeme, is_fold, is_reserved, reserved, spelling, version_number, version_numbered, word_among};
 
 use crate::operator::{Op, Unary};
+use crate::tree::Version;
+
+/// The number of each version, and the version of each number.
+pub fn versions()
+    ensures numbers { map version_number (Version.First ∷ []) ≡ pos 1 ∷ [] }
+    ensures numbered { (version : LanguageVersion) → version_numbered (version_number version) ≡ Some version }
+    ensures number { (number : ℤ) (version : LanguageVersion) → version_numbered number ≡ Some version → number ≡ version_number version }
+{}
 
 /// How each reserved word and each sign is spelled.
 pub fn spellings()
-    ensures reserved { map spelling reserved ≡ map codes ("in" ∷ "let" ∷ "out" ∷ "psi" ∷ "iota"
+    ensures reserved { map spelling (reserved Version.First) ≡ map codes ("in" ∷ "let" ∷ "out" ∷ "psi" ∷ "iota"
         ∷ "take" ∷ "drop" ∷ "reverse" ∷ "rotate" ∷ "transpose" ∷ "permute" ∷ "cat"
         ∷ "reshape" ∷ "ravel" ∷ "outer" ∷ "inner" ∷ "reduce" ∷ "scan"
         ∷ "neg" ∷ "not" ∷ "abs"
@@ -20,23 +29,23 @@ pub fn spellings()
 
 /// What each reserved word is, and what a name is.
 pub fn words()
-    ensures statements { map (λ word. word_among reserved (codes word)) ("psi" ∷ "in" ∷ "let" ∷ "out" ∷ [])
+    ensures statements { map (λ word. word_among (reserved Version.First) (codes word)) ("psi" ∷ "in" ∷ "let" ∷ "out" ∷ [])
         ≡ Lexeme.Psi ∷ Lexeme.In ∷ Lexeme.Let ∷ Lexeme.Out ∷ [] }
-    ensures views { map (λ word. word_among reserved (codes word)) ("iota" ∷ "take" ∷ "drop"
+    ensures views { map (λ word. word_among (reserved Version.First) (codes word)) ("iota" ∷ "take" ∷ "drop"
         ∷ "reverse" ∷ "rotate" ∷ "transpose" ∷ "permute" ∷ "cat" ∷ "reshape" ∷ "ravel" ∷ [])
         ≡ Lexeme.Iota ∷ Lexeme.Take ∷ Lexeme.Drop ∷ Lexeme.Reverse ∷ Lexeme.Rotate
         ∷ Lexeme.Transpose ∷ Lexeme.Permute ∷ Lexeme.Cat ∷ Lexeme.Reshape ∷ Lexeme.Ravel ∷ [] }
-    ensures products_and_folds { map (λ word. word_among reserved (codes word)) ("outer" ∷ "inner" ∷ "reduce" ∷ "scan" ∷ [])
+    ensures products_and_folds { map (λ word. word_among (reserved Version.First) (codes word)) ("outer" ∷ "inner" ∷ "reduce" ∷ "scan" ∷ [])
         ≡ Lexeme.Outer ∷ Lexeme.Inner ∷ Lexeme.Reduce ∷ Lexeme.Scan ∷ [] }
-    ensures unary_operators { map (λ word. word_among reserved (codes word)) ("neg" ∷ "not" ∷ "abs" ∷ [])
+    ensures unary_operators { map (λ word. word_among (reserved Version.First) (codes word)) ("neg" ∷ "not" ∷ "abs" ∷ [])
         ≡ map Lexeme.Unary (Unary.Neg ∷ Unary.Not ∷ Unary.Abs ∷ []) }
-    ensures binary_operators { map (λ word. word_among reserved (codes word)) ("add" ∷ "sub" ∷ "mul" ∷ "quot" ∷ "rem"
+    ensures binary_operators { map (λ word. word_among (reserved Version.First) (codes word)) ("add" ∷ "sub" ∷ "mul" ∷ "quot" ∷ "rem"
         ∷ "min" ∷ "max" ∷ "eq" ∷ "ne" ∷ "lt" ∷ "le" ∷ "and" ∷ "or" ∷ "xor" ∷ [])
         ≡ map Lexeme.Binary (Op.Add ∷ Op.Sub ∷ Op.Mul ∷ Op.Quot ∷ Op.Rem
         ∷ Op.Min ∷ Op.Max ∷ Op.Eq ∷ Op.Ne ∷ Op.Lt ∷ Op.Le ∷ Op.And ∷ Op.Or ∷ Op.Xor ∷ []) }
-    ensures name { word_among reserved (codes "Add") ≡ Lexeme.Name (codes "Add") }
-    ensures is_word { is_reserved (codes "xor") ≡ true }
-    ensures is_name { is_reserved (codes "adds") ≡ false }
+    ensures name { word_among (reserved Version.First) (codes "Add") ≡ Lexeme.Name (codes "Add") }
+    ensures is_word { is_reserved Version.First (codes "xor") ≡ true }
+    ensures is_name { is_reserved Version.First (codes "adds") ≡ false }
 {}
 
 /// The operators that a fold takes.

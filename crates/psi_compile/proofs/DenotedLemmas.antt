@@ -8,17 +8,18 @@ use Rattle.std.specs.Str.{bytes_eq}
 use Rattle.std.proofs.lemmas.Slice.Eq.{bytes_eq-Decides}
 use Rattle.std.proofs.lemmas.Simd.{zip2-map}
 use Rattle.std.proofs.Math.Nat.{zero-add}
-use Rattle.psi_compile.proofs.FormLemmas.{unequal}
+use Rattle.psi_compile.proofs.FormLemmas.{sum_tree, unequal}
 use Rattle.shapes_core.specs.Gamma.{rows}
 use Rattle.moa_tree.specs.declared.operator.Op.TheVariants.{Add}
+use Rattle.moa_tree.specs.declared.tree.Version.{Version}
 use Rattle.moa_tree.specs.Axes.{common, own_index}
 use Rattle.moa_tree.specs.Denotation.{Store, after, output_list, stored}
 use Rattle.moa_tree.specs.Expr.{Input, Two, Use}
 use Rattle.moa_tree.specs.ShapeOf.{beside}
 use Rattle.moa_tree.specs.Values.{Env, shapes_of, unknown, value}
-use Rattle.psi_compile.specs.FirstForm.{sum_tree}
-use Rattle.psi_compile.specs.Layout.{denoted}
+use Rattle.psi_compile.specs.Demands.{denoted}
 use Rattle.vector_sum.specs.Meaning.{demand}
+use Rattle.vector_sum.specs.declared.form.VectorSum.{VectorSum}
 
 -- over one element at each place
 map_singles : {X : Type 0} (f : List ℕ → X) (places : List ℕ) → map f (flat_map (λ k. (k ∷ []) ∷ []) places) ≡ map (λ k. f (k ∷ [])) places
@@ -65,8 +66,12 @@ module _ (env : Env) (left right : List ℕ) (n : ℕ) (first second : List ℤ)
       ∙ same_map _ _ (range_with_len 0 n) sum_at
       ∙ sums n first second f s
 
-pub denotes_sums : (left right sum : List ℕ) (n : ℕ) (first second : List ℤ) → left ≢ right → length first ≡ n → length second ≡ n → denoted (sum_tree left right sum n) (first ∷ second ∷ []) ≡ demand (first ∷ second ∷ [])
-denotes_sums left right sum n first second apart f s =
+pub denotes_sums : (version : Version) (v : VectorSum) (first second : List ℤ) → v.left ≢ v.right → length first ≡ v.extent → length second ≡ v.extent
+    → denoted (sum_tree version v) (first ∷ second ∷ []) ≡ demand (first ∷ second ∷ [])
+denotes_sums version v first second apart f s =
+    let left = v.left in
+    let right = v.right in
+    let n = v.extent in
     let inputs : Store = (left, first) ∷ (right, second) ∷ [] in
     let env : Env = after inputs (after inputs [] (Input left (pos n ∷ []))) (Input right (pos n ∷ [])) in
     let one = same_text left in

@@ -4,8 +4,9 @@ use Rattle.std.specs.Prelude.{◌≢◌}
 use Rattle.std.specs.Str.{bytes_eq}
 use Rattle.std.proofs.lemmas.Bool.Decides.{nat_tests}
 use Rattle.std.proofs.lemmas.Slice.Eq.{bytes_eq-Decides}
-use Rattle.moa_tree.specs.Expr.{Tree}
-use Rattle.psi_compile.specs.FirstForm.{IsFirstForm, sum_tree}
+use Rattle.moa_tree.specs.declared.tree.Version.{Version}
+use Rattle.moa_tree.specs.Expr.{Item, Tree}
+use Rattle.psi_compile.specs.FirstForm.{IsFirstForm, sum_statements}
 use Rattle.vector_sum.specs.Form.{is_extent, is_sound}
 use Rattle.vector_sum.specs.declared.form.VectorSum.{VectorSum}
 
@@ -30,9 +31,14 @@ apart false false true d e = cc
 pub within : (n : ℕ) → is_extent n ≡ true → (1 ≤ n) × (n ≤ 16777216)
 within n e = (grind (arith, nat_tests), grind (arith, nat_tests))
 
--- a tree that is a sound sum is of the form
-abbrev pub first_form : (tree : Tree) (v : VectorSum) → tree ≡ sum_tree v.left v.right v.sum v.extent → is_sound v ≡ true → IsFirstForm tree
-first_form tree v form sound =
+-- the program of a version that is this sum
+abbrev pub sum_tree : Version → VectorSum → Tree
+sum_tree version v = record { version = version; statements = sum_statements v.left v.right v.sum v.extent }
+
+-- statements that are a sound sum are of the form
+abbrev pub first_form : (statements : List Item) (v : VectorSum) → statements ≡ sum_statements v.left v.right v.sum v.extent → is_sound v ≡ true
+    → IsFirstForm statements
+first_form statements v form sound =
     let tests = apart (bytes_eq v.left v.right) (bytes_eq v.left v.sum) (bytes_eq v.right v.sum) (is_extent v.extent) sound in
     let limits = within v.extent tests.3 in
     record {

@@ -8,7 +8,7 @@ use Rattle.rv_steps.specs.Kinds.{is_base, is_free}
 use Rattle.rv_steps.specs.Machine.{Config}
 use Rattle.rv_steps.specs.Stops.{Ends}
 use Rattle.psi_compile.specs.FirstForm.{IsFirstForm}
-use Rattle.psi_compile.specs.Layout.{IsGoodFor}
+use Rattle.psi_compile.specs.Demands.{IsGoodFor}
 
 -- the bounds of every form, for a source of this size that asks for this much work: 3840 lines and 8 spill words a unit of size, and
 -- 1024 steps a unit of work
@@ -29,6 +29,6 @@ pub record IsLean (extent : ℕ) (program : Parts) : Type 0 where
 -- the text is good for the program, which is a sum of two vectors: it is of size 5 and asks for work of 4 and 4 more an element
 pub record IsCompiled (tree : Tree) (text : List ℕ) : Type 0 where
   pub good : IsGoodFor text tree
-  pub form : IsFirstForm tree
+  pub form : IsFirstForm tree.statements
   pub bounded : IsBounded 5 (4 * (1 + form.extent)) good.program
   pub lean : IsLean form.extent good.program

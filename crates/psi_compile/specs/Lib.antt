@@ -1,5 +1,5 @@
 pub mod Compiled
+pub mod Demands
 pub mod Errors
 pub mod FirstForm
-pub mod Layout
 pub mod Nodes

@@ -54,7 +54,7 @@ fn sum_of_statements(
 
 /// The sum of two vectors that the program is, if it is one.
 pub(crate) fn recognise(program: &Program) -> Option<VectorSum>
-    ensures { IsRecognised (tree_of program.now) result }
+    ensures { IsRecognised (tree_of program.now).statements result }
 {
     parts_are_there();
     match program.statements() {

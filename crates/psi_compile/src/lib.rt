@@ -2,10 +2,10 @@
 #![tactic(auto)]
 
 mod compiler;
+pub mod demand_examples;
 mod error;
 mod form;
 pub mod laws;
-pub mod layout_examples;
 mod parts;
 
 pub use compiler::compile;

@@ -4,6 +4,7 @@ use Rattle.std.specs.FinMap.{get}
 use Rattle.psi_edges.specs.Causes.{Rose}
 use Rattle.psi_edges.specs.Files.{Files, OnFile}
 use Rattle.psi_edges.specs.Held.{Appends}
+use Rattle.shape_check.specs.Rules.{Failure}
 use Rattle.psi_top.specs.Answer.{IsAnswer, IsPublished, IsSaid, outcome_of}
 use Rattle.psi_top.specs.Command.{IsCommand, IsMisuse}
 use Rattle.psi_top.specs.Line.{cannot_write_line}
@@ -11,14 +12,14 @@ use Rattle.psi_top.specs.Made.{IsMade}
 use Rattle.psi_top.specs.Outcome.{AreFiles, IsDue, IsOutcome, IsSourceOutcome, IsTextOf, Outcome, line_of, status_of}
 use Rattle.psi_top.specs.Outcome.IsDue.{over_files, cannot_read, no_memory}
 use Rattle.psi_top.specs.Outcome.IsOutcome.{usage, missing, found}
-use Rattle.psi_top.specs.Outcome.IsSourceOutcome.{too_long, refused, not_built, made}
+use Rattle.psi_top.specs.Outcome.IsSourceOutcome.{too_long, refused, not_built, fails, made}
 use Rattle.psi_top.specs.Outcome.Outcome.{Refuses, Makes}
 use Rattle.psi_top.specs.Put.{IsCut, IsLinePut, IsPut, IsWhole}
 use Rattle.psi_top.specs.Put.IsPut.{whole, out_failed, err_failed}
 use Rattle.psi_top.specs.Views.{ShelfView, SinkView}
 use Rattle.psi_top.specs.declared.command.Task.{Task}
 use Rattle.psi_top.specs.declared.refusal.Refusal.{Refusal}
-use Rattle.psi_top.specs.declared.refusal.Refusal.TheVariants.{Usage, CannotRead, TooLong, Text, NotBuilt, Memory}
+use Rattle.psi_top.specs.declared.refusal.Refusal.TheVariants.{Usage, CannotRead, TooLong, Text, Rule, Limit, NotBuilt, Memory}
 
 -- no bytes more are the same bytes
 append_nothing : (before now : Option (List ℕ)) → Appends before now [] → now ≡ before
@@ -56,6 +57,8 @@ refusal_text Usage = refl
 refusal_text (CannotRead name) = refl
 refusal_text (TooLong name) = refl
 refusal_text (Text name at cause) = refl
+refusal_text (Rule name at rule) = refl
+refusal_text (Limit name at which value) = refl
 refusal_text (NotBuilt name at) = refl
 refusal_text Memory = refl
 
@@ -73,17 +76,21 @@ not_usage Usage other = absurd (other refl)
 not_usage (CannotRead name) other = λ e. omega arith
 not_usage (TooLong name) other = λ e. omega arith
 not_usage (Text name at cause) other = λ e. omega arith
+not_usage (Rule name at rule) other = λ e. omega arith
+not_usage (Limit name at which value) other = λ e. omega arith
 not_usage (NotBuilt name at) other = λ e. omega arith
 not_usage Memory other = λ e. omega arith
 
 -- the statuses of calls
 abbrev statuses : List ℕ
-statuses = 0 ∷ 1 ∷ 2 ∷ 3 ∷ 4 ∷ 6 ∷ 10 ∷ 11 ∷ []
+statuses = 0 ∷ 1 ∷ 2 ∷ 3 ∷ 4 ∷ 5 ∷ 6 ∷ 10 ∷ 11 ∷ []
 
 source_status : (task : Task) (name source : List ℕ) (outcome : Outcome) (read : ℕ) → IsSourceOutcome task name source outcome read → Contains statuses (status_of outcome)
-source_status task name source outcome read (too_long a) = (5, omega arith, refl)
+source_status task name source outcome read (too_long a) = (6, omega arith, refl)
 source_status task name source outcome read (refused a r) = (4, omega arith, refl)
-source_status task name source outcome read (not_built a t r) = (7, omega arith, refl)
+source_status task name source outcome read (not_built a t r) = (8, omega arith, refl)
+source_status task name source outcome read (fails {failure = Failure.Rule place rule} a other r v) = (5, omega arith, refl)
+source_status task name source outcome read (fails {failure = Failure.Limit place which value} a other r v) = (6, omega arith, refl)
 source_status task name source outcome read (made a r can) = (0, omega arith, refl)
 
 outcome_status : (words : List (List ℕ)) (files : Files) (outcome : Outcome) (read : ℕ) → IsOutcome words files outcome read → Contains statuses (status_of outcome)
@@ -94,7 +101,7 @@ outcome_status words files outcome read (found a at r) = source_status _ _ _ out
 due_status : (words : List (List ℕ)) (old new : ShelfView) (outcome : Outcome) → IsDue words old new outcome → Contains statuses (status_of outcome)
 due_status words old new outcome (over_files told o given faults) = outcome_status words _ outcome _ o
 due_status words old new outcome (cannot_read a rose named) = (2, omega arith, refl)
-due_status words old new outcome (no_memory a) = (6, omega arith, refl)
+due_status words old new outcome (no_memory a) = (7, omega arith, refl)
 
 -- of words that are no command the outcome is one
 misuse_outcome : (words : List (List ℕ)) (files : Files) (outcome : Outcome) (read : ℕ) → IsMisuse words → IsOutcome words files outcome read → (status_of outcome ≡ 1) × (line_of outcome ≢ [])
@@ -112,6 +119,8 @@ source_text : (task : Task) (name source : List ℕ) (outcome : Outcome) (read :
 source_text task name source outcome read text (too_long a) e t = absurd (omega arith)
 source_text task name source outcome read text (refused a r) e t = absurd (omega arith)
 source_text task name source outcome read text (not_built a is r) e t = absurd (omega arith)
+source_text task name source outcome read text (fails {failure = Failure.Rule place rule} a other r v) e t = absurd (omega arith)
+source_text task name source outcome read text (fails {failure = Failure.Limit place which value} a other r v) e t = absurd (omega arith)
 source_text task name source outcome read text (made {tree = tree} a r can) e t = (record { tree = tree; read = r; can = can; made = t }, refl)
 
 -- an outcome of status 0 is a text for the file that the words name

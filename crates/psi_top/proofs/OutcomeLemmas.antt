@@ -1,5 +1,5 @@
-use Rattle.std.proofs.Common.{◌≡◌, ℕ, ◌+◌, ◌<◌, inl, inr, List, length, replicate, Option, Some, None, cond, refl, sym, ap, subst, ◌∙◌, arith}
-use Rattle.std.specs.Prelude.{IsSomeAnd}
+use Rattle.std.proofs.Common.{◌≡◌, ℕ, ◌+◌, ◌<◌, ◌≤◌, inl, inr, List, length, replicate, Option, Some, None, cond, refl, sym, ap, subst, ◌∙◌, arith}
+use Rattle.std.specs.Prelude.{◌≢◌, Err, IsOk, IsSomeAnd}
 use Rattle.std.proofs.lemmas.List.{length-replicate}
 use Rattle.std.specs.Cmp.{eq_by_cmp_equiv}
 use Rattle.std.specs.Cmp.Lexicographic.{nat_list_cmp_total}
@@ -8,24 +8,35 @@ use Rattle.text_tokens.specs.declared.token.Position.{Position}
 use Rattle.moa_tree.specs.Expr.{Tree}
 use Rattle.moa_tree.specs.Readings.{Reads}
 use Rattle.moa_tree.specs.Refusals.{IsRefused}
+use Rattle.moa_tree.specs.ShapeOf.{Shapes}
+use Rattle.shape_check.specs.Rules.{Failure}
+use Rattle.shape_check.specs.Statements.{verdict_of}
+use Rattle.psi_compile.specs.Errors.{IsFailing, failed_at}
 use Rattle.psi_compile.specs.FirstForm.{IsFirstForm}
+use Rattle.psi_compile.specs.declared.error.CompileError.{CompileError}
+use Rattle.psi_compile.specs.declared.error.CompileError.TheVariants as error
 use Rattle.psi_edges.specs.Causes.{raised}
 use Rattle.psi_edges.specs.Files.{Files, OnFile}
 use Rattle.psi_top.specs.Command.{IsCommand, IsMisuse}
-use Rattle.psi_top.specs.Line.{limit_line, usage_line}
-use Rattle.psi_top.specs.Made.{CanMake}
+use Rattle.psi_top.specs.Line.{exceeded_line, longer_line, no_memory_line, not_built_line, rule_line, text_line, usage_line}
+use Rattle.psi_top.specs.Made.{CanMake, IsCauseFor}
 use Rattle.psi_top.specs.Outcome.{AreFiles, IsDue, IsOutcome, IsSourceOutcome, Outcome, most_read}
 use Rattle.psi_top.specs.Outcome.IsOutcome.{usage, missing, found}
-use Rattle.psi_top.specs.Outcome.IsSourceOutcome.{too_long, refused, not_built, made}
+use Rattle.psi_top.specs.Outcome.IsSourceOutcome.{too_long, refused, not_built, fails, made}
 use Rattle.psi_top.specs.Outcome.Outcome.{Refuses, Makes}
 use Rattle.psi_top.specs.Views.{ShelfView}
 use Rattle.psi_top.specs.declared.command.Task.{Task}
-use Rattle.psi_top.specs.declared.command.Task.TheVariants.{ShowSource, Compile}
+use Rattle.psi_top.specs.declared.command.Task.TheVariants.{Check, ShowSource, Compile}
 
 -- words are one command
 pub same_command : (words : List (List ℕ)) (task another : Task) (name other : List ℕ) → IsCommand words task name → IsCommand words another other → (task ≡ another) × (name ≡ other)
+same_command words Check Check name other a b = let both = sym a.form ∙ b.form in (refl, cc)
+same_command words Check ShowSource name other a b = let both = sym a.form ∙ b.form in absurd (cc)
+same_command words Check Compile name other a b = let both = sym a.form ∙ b.form in absurd (cc)
+same_command words ShowSource Check name other a b = let both = sym a.form ∙ b.form in absurd (cc)
 same_command words ShowSource ShowSource name other a b = let both = sym a.form ∙ b.form in (refl, cc)
 same_command words ShowSource Compile name other a b = let both = sym a.form ∙ b.form in absurd (cc)
+same_command words Compile Check name other a b = let both = sym a.form ∙ b.form in absurd (cc)
 same_command words Compile ShowSource name other a b = let both = sym a.form ∙ b.form in absurd (cc)
 same_command words Compile Compile name other a b = let both = sym a.form ∙ b.form in (refl, cc)
 
@@ -33,31 +44,54 @@ same_command words Compile Compile name other a b = let both = sym a.form ∙ b.
 same_found : (words : List (List ℕ)) (files : Files) (task another : Task) (name other : List ℕ) (first again : Option (List ℕ)) → IsCommand words task name → IsCommand words another other → get files name ≡ first → get files other ≡ again → first ≡ again
 same_found words files task another name other first again a b at there = sym at ∙ ap (λ n. get files n) (same_command words task another name other a b).1 ∙ there
 
+none_accepted : (failure : Failure) → IsOk {T = Shapes} (Err failure) → ⊥
+none_accepted failure e = cc
+
 module _ (one_reading : (text : List ℕ) (first second : Tree) → Reads text first → Reads text second → first ≡ second) (one_refusal : (text : List ℕ) (first second : Position) (cause other : ℕ) → IsRefused text first cause → IsRefused text second other → (first ≡ second) × (cause ≡ other)) (never_both : (text : List ℕ) (tree : Tree) (position : Position) (cause : ℕ) → Reads text tree → IsRefused text position cause → ⊥) where
   -- a program that can be compiled is of a form that is built
-  built : (task : Task) (source : List ℕ) (tree other : Tree) → task ≡ Compile → Reads source tree → Reads source other → (IsFirstForm tree → ⊥) → CanMake task other → ⊥
+  built : (task : Task) (source : List ℕ) (tree other : Tree) → task ≡ Compile → Reads source tree → Reads source other → (IsFirstForm tree.statements → ⊥) → CanMake task other → ⊥
   built task source tree other is read again none can =
-      none (subst IsFirstForm (sym (one_reading source tree other read again)) (subst (λ t. CanMake t other) is can))
+      none (subst (λ t. IsFirstForm t.statements) (sym (one_reading source tree other read again)) (subst (λ t. CanMake t other) is can))
+
+  -- a program that fails is not made anything of
+  unmade : (task : Task) (source : List ℕ) (tree other : Tree) (failure : Failure) → task ≢ Compile → Reads source tree → Reads source other → verdict_of tree.statements ≡ Err failure → CanMake task other → ⊥
+  unmade Check source tree other failure t read again e can = none_accepted failure (subst IsOk (ap (λ (t : Tree). verdict_of t.statements) (one_reading source other tree again read) ∙ e) can)
+  unmade ShowSource source tree other failure t read again e can = none_accepted failure (subst IsOk (ap (λ (t : Tree). verdict_of t.statements) (one_reading source other tree again read) ∙ e) can)
+  unmade Compile source tree other failure t read again e can = absurd (t refl)
+
+  -- a source fails in one way
+  one_failure : (source : List ℕ) (tree other : Tree) (first second : Failure) → Reads source tree → Reads source other → verdict_of tree.statements ≡ Err first → verdict_of other.statements ≡ Err second → first ≡ second
+  one_failure source tree other first second read again e f = let both = sym e ∙ ap (λ (t : Tree). verdict_of t.statements) (one_reading source tree other read again) ∙ f in cc
 
   -- a source comes to one outcome
   one_source : (task : Task) (name source : List ℕ) (one other : Outcome) (read other_read : ℕ) → IsSourceOutcome task name source one read → IsSourceOutcome task name source other other_read → (one ≡ other) × (read ≡ other_read)
   one_source task name source one other read other_read (too_long a) (too_long b) = (refl, refl)
   one_source task name source one other read other_read (too_long a) (refused b s) = absurd (omega (arith, a, b))
   one_source task name source one other read other_read (too_long a) (not_built b u s) = absurd (omega (arith, a, b))
+  one_source task name source one other read other_read (too_long a) (fails b u s v) = absurd (omega (arith, a, b))
   one_source task name source one other read other_read (too_long a) (made b s can) = absurd (omega (arith, a, b))
   one_source task name source one other read other_read (refused a r) (too_long b) = absurd (omega (arith, a, b))
   one_source task name source one other read other_read (refused a r) (refused b s) =
       let same = one_refusal source _ _ _ _ r s in (rw (same.0, same.1) refl, refl)
   one_source task name source one other read other_read (refused a r) (not_built b u s) = absurd (never_both source s.tree _ _ s.read r)
+  one_source task name source one other read other_read (refused a r) (fails b u s v) = absurd (never_both source _ _ _ s r)
   one_source task name source one other read other_read (refused a r) (made b s can) = absurd (never_both source _ _ _ s r)
   one_source task name source one other read other_read (not_built a t r) (too_long b) = absurd (omega (arith, a, b))
   one_source task name source one other read other_read (not_built a t r) (refused b s) = absurd (never_both source r.tree _ _ r.read s)
   one_source task name source one other read other_read (not_built {at = at} a t r) (not_built {at = there} b u s) =
       let same : at ≡ there = let both = sym r.first ∙ s.first in cc in (rw same refl, refl)
+  one_source task name source one other read other_read (not_built a t r) (fails b u s v) = absurd (u t)
   one_source task name source one other read other_read (not_built a t r) (made b s can) = absurd (built task source _ _ t r.read s r.other can)
+  one_source task name source one other read other_read (fails a t r v) (too_long b) = absurd (omega (arith, a, b))
+  one_source task name source one other read other_read (fails a t r v) (refused b s) = absurd (never_both source _ _ _ r s)
+  one_source task name source one other read other_read (fails a t r v) (not_built b u s) = absurd (t u)
+  one_source task name source one other read other_read (fails a t r v) (fails b u s w) =
+      let same = one_failure source _ _ _ _ r s v w in (rw same refl, refl)
+  one_source task name source one other read other_read (fails a t r v) (made b s can) = absurd (unmade task source _ _ _ t r s v can)
   one_source task name source one other read other_read (made a r can) (too_long b) = absurd (omega (arith, a, b))
   one_source task name source one other read other_read (made a r can) (refused b s) = absurd (never_both source _ _ _ r s)
   one_source task name source one other read other_read (made a r can) (not_built b u s) = absurd (built task source _ _ u s.read r s.other can)
+  one_source task name source one other read other_read (made a r can) (fails b u s v) = absurd (unmade task source _ _ _ u s r v can)
   one_source task name source one other read other_read (made a r can) (made b s could) = (ap (λ tree. Makes task tree) (one_reading source _ _ r s), refl)
 
   -- words come to one outcome over files
@@ -75,6 +109,44 @@ module _ (one_reading : (text : List ℕ) (first second : Tree) → Reads text f
       let both = same_found words files _ _ _ _ _ _ a b at there in
       let same : source ≡ text = cc in
       one_source task name source one other read other_read r (rw (sym command.0, sym command.1, sym same) at s)
+
+-- what a source comes to where a task cannot be done for this reason
+abbrev pub said : List ℕ → CompileError → Outcome
+said name (error.Text at cause) = Refuses 4 (text_line name at cause)
+said name (error.Rule at rule) = Refuses 5 (rule_line name at rule)
+said name (error.Limit at which value) = Refuses 6 (exceeded_line name at which value)
+said name (error.NotBuilt at) = Refuses 11 (not_built_line name at)
+said name error.Memory = Refuses 10 no_memory_line
+
+module _ (task : Task) (name source : List ℕ) (short : length source ≤ 1048576) where
+  failure_said : (tree : Tree) (failure : Failure) → task ≢ Compile → Reads source tree → verdict_of tree.statements ≡ Err failure → IsSourceOutcome task name source (said name (failed_at source failure)) (length source)
+  failure_said tree (Failure.Rule place rule) other read e = fails short other read e
+  failure_said tree (Failure.Limit place which value) other read e = fails short other read e
+
+  failing_said : (reason : CompileError) → task ≢ Compile → IsFailing source reason → IsSourceOutcome task name source (said name reason) (length source)
+  failing_said reason other f = subst (λ r. IsSourceOutcome task name source (said name r) (length source)) (sym f.answered) (failure_said f.tree f.failure other f.read f.fails)
+
+  -- each reason is an outcome of the source
+  pub reason_said : (reason : CompileError) → reason ≢ error.Memory → IsCauseFor task source reason → IsSourceOutcome task name source (said name reason) (length source)
+  reason_said reason some cause = by_task task refl reason some cause
+    where
+      by_task : (t : Task) → task ≡ t → (reason : CompileError) → reason ≢ error.Memory → IsCauseFor t source reason → IsSourceOutcome task name source (said name reason) (length source)
+      by_task t is (error.Text at cause) some c = refused short (text_cause t at cause c)
+        where
+          text_cause : (t : Task) (at : Position) (cause : ℕ) → IsCauseFor t source (error.Text at cause) → IsRefused source at cause
+          text_cause Check at cause c = c.0
+          text_cause ShowSource at cause c = c.0
+          text_cause Compile at cause c = c.0
+      by_task Check is (error.Rule at rule) some c = failing_said (error.Rule at rule) (λ e. cc) c.0
+      by_task ShowSource is (error.Rule at rule) some c = failing_said (error.Rule at rule) (λ e. cc) c.0
+      by_task Compile is (error.Rule at rule) some c = absurd c.1
+      by_task Check is (error.Limit at which value) some c = failing_said (error.Limit at which value) (λ e. cc) c.0
+      by_task ShowSource is (error.Limit at which value) some c = failing_said (error.Limit at which value) (λ e. cc) c.0
+      by_task Compile is (error.Limit at which value) some c = absurd c.1
+      by_task Check is (error.NotBuilt at) some c = absurd (c.1 tt)
+      by_task ShowSource is (error.NotBuilt at) some c = absurd (c.1 tt)
+      by_task Compile is (error.NotBuilt at) some c = not_built short is c.0
+      by_task t is error.Memory some c = absurd (some refl)
 
 -- there are files of each length
 long_file : (n : ℕ) → (file : List ℕ) × (n < length file)
@@ -103,7 +175,7 @@ due_usage words shelf misuse = IsDue.over_files (some_files shelf.files).1 (IsOu
 
 module _ (words : List (List ℕ)) (old new : ShelfView) (task : Task) (name : List ℕ) (command : IsCommand words task name) (faults : new.faults ≡ old.faults) where
   -- the file is too long
-  pub due_too_long : OnFile old.files name (λ file. 1048576 < length file) → new.given ≡ raised old.given most_read → IsDue words old new (Refuses 6 (limit_line name))
+  pub due_too_long : OnFile old.files name (λ file. 1048576 < length file) → new.given ≡ raised old.given most_read → IsDue words old new (Refuses 6 (longer_line name))
   due_too_long on given =
       let long = long_file 1048576 in
       let file = file_at old.files name long.0 (λ file. 1048576 < length file) long.1 on in

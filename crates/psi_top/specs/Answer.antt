@@ -1,7 +1,7 @@
 -- What the code says of outcomes.
 use Rattle.std.specs.Prelude.{ℕ, ◌≡◌, ◌≢◌, ◌⊎◌, List, [], MatchResult, Result, Vec}
 use Rattle.moa_tree.specs.Expr.{Tree}
-use Rattle.psi_top.specs.Line.{usage_line, cannot_read_line, limit_line, no_memory_line, not_built_line, text_line}
+use Rattle.psi_top.specs.Line.{usage_line, cannot_read_line, longer_line, exceeded_line, no_memory_line, not_built_line, rule_line, text_line}
 use Rattle.psi_top.specs.Made.{IsTextFor}
 use Rattle.psi_top.specs.Outcome.{IsDue, IsTextOf, Outcome, line_of, status_of}
 use Rattle.psi_top.specs.Outcome.Outcome.{Refuses, Makes}
@@ -9,14 +9,16 @@ use Rattle.psi_top.specs.Put.{IsPut}
 use Rattle.psi_top.specs.Views.{ShelfView, SinkView}
 use Rattle.psi_top.specs.declared.command.Task.{Task}
 use Rattle.psi_top.specs.declared.refusal.Refusal.{Refusal}
-use Rattle.psi_top.specs.declared.refusal.Refusal.TheVariants.{Usage, CannotRead, TooLong, Text, NotBuilt, Memory}
+use Rattle.psi_top.specs.declared.refusal.Refusal.TheVariants.{Usage, CannotRead, TooLong, Text, Rule, Limit, NotBuilt, Memory}
 
 -- the status and the line of a refusal
 abbrev pub outcome_of : Refusal → Outcome
 outcome_of Usage = Refuses 1 usage_line
 outcome_of (CannotRead name) = Refuses 2 (cannot_read_line name.now)
-outcome_of (TooLong name) = Refuses 6 (limit_line name.now)
+outcome_of (TooLong name) = Refuses 6 (longer_line name.now)
 outcome_of (Text name at cause) = Refuses 4 (text_line name.now at cause)
+outcome_of (Rule name at rule) = Refuses 5 (rule_line name.now at rule)
+outcome_of (Limit name at which value) = Refuses 6 (exceeded_line name.now at which value)
 outcome_of (NotBuilt name at) = Refuses 11 (not_built_line name.now at)
 outcome_of Memory = Refuses 10 no_memory_line
 

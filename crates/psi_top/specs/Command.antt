@@ -1,10 +1,11 @@
 -- What words ask for.
 use Rattle.std.specs.Prelude.{ℕ, ◌≡◌, ◌≤◌, List, [], ◌∷◌, ◌++◌, length, codes}
 use Rattle.psi_top.specs.declared.command.Task.{Task}
-use Rattle.psi_top.specs.declared.command.Task.TheVariants.{ShowSource, Compile}
+use Rattle.psi_top.specs.declared.command.Task.TheVariants.{Check, ShowSource, Compile}
 
 -- the words with which a command begins
 abbrev pub words_of : Task → List (List ℕ)
+words_of Check = codes "check" ∷ []
 words_of ShowSource = codes "show" ∷ codes "source" ∷ []
 words_of Compile = codes "compile" ∷ []
 

@@ -4,4 +4,5 @@ pub mod Line
 pub mod Made
 pub mod Outcome
 pub mod Put
+pub mod Report
 pub mod Views

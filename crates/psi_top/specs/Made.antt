@@ -1,20 +1,27 @@
 -- Which text is made of a source.
-use Rattle.std.specs.Prelude.{ℕ, ◌≡◌, List, ⊤}
+use Rattle.std.specs.Prelude.{ℕ, ◌≡◌, List, IsOk, ⊤}
 use Rattle.moa_tree.specs.Canonical.{canonical}
 use Rattle.moa_tree.specs.Expr.{Tree}
 use Rattle.moa_tree.specs.Readings.{Reads}
+use Rattle.shape_check.specs.Statements.{verdict_of}
 use Rattle.psi_compile.specs.Compiled.{IsCompiled}
+use Rattle.psi_compile.specs.Errors.{IsCause, IsUnchecked}
+use Rattle.psi_compile.specs.declared.error.CompileError.{CompileError}
+use Rattle.psi_compile.specs.declared.error.CompileError.TheVariants as error
 use Rattle.psi_compile.specs.FirstForm.{IsFirstForm}
+use Rattle.psi_top.specs.Report.{report}
 use Rattle.psi_top.specs.declared.command.Task.{Task}
-use Rattle.psi_top.specs.declared.command.Task.TheVariants.{ShowSource, Compile}
+use Rattle.psi_top.specs.declared.command.Task.TheVariants.{Check, ShowSource, Compile}
 
 -- a task can be done for this program
 abbrev pub CanMake : Task → Tree → Type 0
-CanMake ShowSource tree = ⊤
-CanMake Compile tree = IsFirstForm tree
+CanMake Check tree = IsOk (verdict_of tree.statements)
+CanMake ShowSource tree = IsOk (verdict_of tree.statements)
+CanMake Compile tree = IsFirstForm tree.statements
 
--- the text is what a task makes of this program: its canonical text, or one that is good for it
+-- the text is what a task makes of this program: the report on it, its canonical text, or one that is good for it
 abbrev pub IsTextFor : Task → Tree → List ℕ → Type 0
+IsTextFor Check tree text = text ≡ report tree.statements
 IsTextFor ShowSource tree text = text ≡ canonical tree
 IsTextFor Compile tree text = IsCompiled tree text
 
@@ -24,3 +31,14 @@ pub record IsMade (task : Task) (source text : List ℕ) : Type 0 where
   pub read : Reads source tree
   pub can : CanMake task tree
   pub made : IsTextFor task tree text
+
+-- the program is of no form that is built
+abbrev pub IsUnbuilt : CompileError → Type 0
+IsUnbuilt (error.NotBuilt at) = ⊤
+IsUnbuilt _ = ⊥
+
+-- why a task cannot be done for a source: what is not compiled is of another form before it is checked
+abbrev pub IsCauseFor : Task → List ℕ → CompileError → Type 0
+IsCauseFor Check source error = IsCause source error × (IsUnbuilt error → ⊥)
+IsCauseFor ShowSource source error = IsCause source error × (IsUnbuilt error → ⊥)
+IsCauseFor Compile source error = IsCause source error × IsUnchecked error

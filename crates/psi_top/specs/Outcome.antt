@@ -1,15 +1,19 @@
 -- What a call comes to.
-use Rattle.std.specs.Prelude.{ℕ, ◌≡◌, ◌<◌, ◌≤◌, ◌⊎◌, List, [], length, Option, Some, None}
+use Rattle.std.specs.Prelude.{ℕ, ◌≡◌, ◌≢◌, ◌<◌, ◌≤◌, ◌⊎◌, List, [], length, Option, Some, None, Err}
+use Rattle.std.specs.Option.{option_map}
 use Rattle.std.specs.FinMap.{get}
 use Rattle.text_tokens.specs.declared.token.Position.{Position}
 use Rattle.moa_tree.specs.Expr.{Tree}
 use Rattle.moa_tree.specs.Readings.{Reads}
 use Rattle.moa_tree.specs.Refusals.{IsRefused}
+use Rattle.shape_check.specs.Rules.{Failure}
+use Rattle.shape_check.specs.Statements.{verdict_of}
+use Rattle.psi_compile.specs.Errors.{position_of}
 use Rattle.psi_compile.specs.FirstForm.{IsNotBuilt}
 use Rattle.psi_edges.specs.Causes.{Rose, raised}
 use Rattle.psi_edges.specs.Files.{Files}
 use Rattle.psi_top.specs.Command.{IsCommand, IsMisuse}
-use Rattle.psi_top.specs.Line.{usage_line, cannot_read_line, limit_line, no_memory_line, not_built_line, text_line}
+use Rattle.psi_top.specs.Line.{usage_line, cannot_read_line, longer_line, exceeded_line, no_memory_line, not_built_line, rule_line, text_line}
 use Rattle.psi_top.specs.Made.{CanMake, IsTextFor}
 use Rattle.psi_top.specs.Views.{ShelfView}
 use Rattle.psi_top.specs.declared.command.Task.{Task}
@@ -42,11 +46,21 @@ longest = 1048576
 abbrev pub most_read : ℕ
 most_read = 1048577
 
+-- the status of a failure, and its line, at its position in the source
+abbrev pub failure_status : Failure → ℕ
+failure_status (Failure.Rule place rule) = 5
+failure_status (Failure.Limit place which value) = 6
+
+abbrev pub failure_line : List ℕ → List ℕ → Failure → List ℕ
+failure_line name source (Failure.Rule place rule) = rule_line name (position_of source place) rule
+failure_line name source (Failure.Limit place which value) = exceeded_line name (option_map (position_of source) place) which value
+
 -- what a task comes to over a source, which is the file of this name, and how many bytes of it are read
 pub data IsSourceOutcome (task : Task) (name source : List ℕ) : Outcome → ℕ → Type 0 where
-  too_long : longest < length source → IsSourceOutcome task name source (Refuses 6 (limit_line name)) most_read
+  too_long : longest < length source → IsSourceOutcome task name source (Refuses 6 (longer_line name)) most_read
   refused : {at : Position} {cause : ℕ} → length source ≤ longest → IsRefused source at cause → IsSourceOutcome task name source (Refuses 4 (text_line name at cause)) (length source)
   not_built : {at : Position} → length source ≤ longest → task ≡ Compile → IsNotBuilt source at → IsSourceOutcome task name source (Refuses 11 (not_built_line name at)) (length source)
+  fails : {tree : Tree} {failure : Failure} → length source ≤ longest → task ≢ Compile → Reads source tree → verdict_of tree.statements ≡ Err failure → IsSourceOutcome task name source (Refuses (failure_status failure) (failure_line name source failure)) (length source)
   made : {tree : Tree} → length source ≤ longest → Reads source tree → CanMake task tree → IsSourceOutcome task name source (Makes task tree) (length source)
 
 -- what these words come to over these files, and how many bytes of the named file are read for it, where nothing fails and there is memory

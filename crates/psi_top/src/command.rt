@@ -9,6 +9,8 @@ const LONGEST_NAME: usize = 4096;
 /// What is made of a source.
 #[derive(Clone, Copy)]
 pub(crate) enum Task {
+    /// The report on its program.
+    Check,
     /// Its canonical text.
     ShowSource,
     /// The text that it is compiled to.
@@ -20,6 +22,12 @@ pub(crate) enum Task {
 pub(crate) struct Command<'a> {
     pub(crate) task: Task,
     pub(crate) name: &'a str,
+}
+
+fn is_check(word: &str) -> bool
+    ensures { IsTrue result ↔ (word.now ≡ codes "check") }
+{
+    word == "check"
 }
 
 fn is_compile(word: &str) -> bool
@@ -41,6 +49,7 @@ fn task_of(words: &[String]) -> Option<Task>
         (λ task. map string_bytes words.now ≡ words_of task) }
 {
     match words {
+        [word] if is_check(word.as_str()) => Some(Task::Check),
         [word] if is_compile(word.as_str()) => Some(Task::Compile),
         [first, second] if is_show_source(first.as_str(), second.as_str()) => {
             Some(Task::ShowSource)

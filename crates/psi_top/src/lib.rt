@@ -5,6 +5,7 @@ mod command;
 mod laws;
 mod program;
 mod refusal;
+mod report;
 mod start;
 #[cfg(test)]
 mod tests;

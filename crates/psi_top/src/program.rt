@@ -1,28 +1,28 @@
 // The commands of the program.
-ghost use Rattle.std.specs.Prelude.{◌≡◌, ◌≢◌, ℕ, ◌+◌, ◌≤◌, ◌⊎◌, List, [], ◌∷◌, length, map, Err, IfOk, IsSomeAnd, string_bytes, Contains};
-ghost use Rattle.text_tokens.specs.declared.token.Position.{Position as TextPosition};
-ghost use Rattle.moa_tree.specs.Refusals.{IsRefused};
-ghost use Rattle.psi_compile.specs.FirstForm.{IsNotBuilt};
-ghost use Rattle.psi_compile.specs.declared.error.CompileError.TheVariants as error;
+ghost use Rattle.std.specs.Prelude.{◌≡◌, ◌≢◌, ℕ, ◌+◌, ◌≤◌, ◌⊎◌, List, [], ◌∷◌, length, map, IfErr, IfOk, IsSomeAnd, string_bytes, Contains};
+ghost use Rattle.moa_tree.specs.Pools.{tree_of};
+ghost use Rattle.moa_tree.specs.Readings.{Reads};
+ghost use Rattle.psi_compile.specs.Errors.{IsCause};
 ghost use Rattle.psi_edges.specs.Causes.{Rose};
 ghost use Rattle.psi_edges.specs.Files.{OnFile};
 ghost use Rattle.psi_edges.specs.Held.{Appends};
 ghost use Rattle.psi_top.specs.Answer.{IsAnswer, IsPublished};
 ghost use Rattle.psi_top.specs.Command.{IsCommand, IsMisuse};
-ghost use Rattle.psi_top.specs.Made.{IsMade};
+ghost use Rattle.psi_top.specs.Made.{IsCauseFor, IsMade, IsUnbuilt};
 ghost use Rattle.psi_top.specs.Outcome.{IsDue, IsOutcome, IsTextOf, Outcome, line_of, most_read, status_of};
 ghost use Rattle.psi_top.specs.Put.{IsPut};
 ghost use Rattle.psi_top.specs.Views.{shelf_view, sink_view};
 ghost use Rattle.psi_top.specs.declared.command.Task.{Task as AnyTask};
-ghost use Rattle.psi_top.specs.declared.command.Task.TheVariants.{ShowSource, Compile};
 
 use crate::command::{Command, Task, command_of};
 use crate::laws::one_outcome;
 use crate::refusal::{CANNOT_WRITE_STATUS, Refusal, put_line, refuse};
+use crate::report::report_on;
 use moa_reader::{print, read};
-use psi_compile::laws::refusals_are_the_readers;
+use psi_compile::laws::causes_are_kept;
 use psi_compile::{CompileError, compile};
 use psi_edges::{Fetch, Shelf, Sink, WriteFault, read_whole, write_whole};
+use shape_check::{Checked, check};
 use std::alloc::Global;
 
 /// The greatest number of bytes in a source.
@@ -30,30 +30,27 @@ const LONGEST_SOURCE: u64 = 1048576;
 
 const CANNOT_WRITE: &[u8] = b"psic: cannot write\n";
 
-/// The canonical text of the program that a source reads as.
-fn shown(alloc: Global, source: &[u8]) -> Result<Vec<u8>, CompileError>
+/// The program that a source reads as, checked.
+fn checked(alloc: Global, source: &[u8]) -> Result<Checked, CompileError>
     requires { length source.now ≤ 1048576 }
-    ensures made { IfOk result (λ text. IsMade ShowSource source.now text.items) }
-    ensures refused { (at : TextPosition) (cause : ℕ) → result ≡ Err (error.Text at cause)
-        → IsRefused source.now at cause }
-    ensures built { (at : TextPosition) → result ≢ Err (error.NotBuilt at) }
+    ensures read { IfOk result (λ checked. Reads source.now (tree_of checked.pools)) }
+    ensures causes { IfErr result (λ error. IsCause source.now error) }
+    ensures unbuilt { IfErr result (λ error. IsUnbuilt error → ⊥) }
 {
-    refusals_are_the_readers();
+    causes_are_kept();
     let program = read(alloc, source)?;
-    Ok(print(alloc, &program)?)
+    Ok(check(alloc, program)?)
 }
 
 /// The text that a task makes of a source.
 fn text_for(alloc: Global, task: Task, source: &[u8]) -> Result<Vec<u8>, CompileError>
     requires { length source.now ≤ 1048576 }
     ensures made { IfOk result (λ text. IsMade task source.now text.items) }
-    ensures refused { (at : TextPosition) (cause : ℕ) → result ≡ Err (error.Text at cause)
-        → IsRefused source.now at cause }
-    ensures not_built { (at : TextPosition) → result ≡ Err (error.NotBuilt at)
-        → (task ≡ Compile) × IsNotBuilt source.now at }
+    ensures causes { IfErr result (λ error. IsCauseFor task source.now error) }
 {
     match task {
-        Task::ShowSource => shown(alloc, source),
+        Task::Check => Ok(report_on(alloc, &checked(alloc, source)?)?),
+        Task::ShowSource => Ok(print(alloc, checked(alloc, source)?.program())?),
         Task::Compile => compile(alloc, source),
     }
 }
@@ -80,6 +77,13 @@ fn answer_of<'a, F: Shelf>(
         Ok(source) => match text_for(alloc, command.task, &source) {
             Ok(text) => Ok(text),
             Err(CompileError::Text { at, cause }) => Err(Refusal::Text { name, at, cause }),
+            Err(CompileError::Rule { at, rule }) => Err(Refusal::Rule { name, at, rule }),
+            Err(CompileError::Limit { at, which, value }) => Err(Refusal::Limit {
+                name,
+                at,
+                which,
+                value,
+            }),
             Err(CompileError::NotBuilt { at }) => Err(Refusal::NotBuilt { name, at }),
             Err(CompileError::Memory) => Err(Refusal::Memory),
         },
@@ -143,11 +147,13 @@ fn publish<K: Sink, E: Sink>(
 /// | status | comes | line put to `err` |
 /// |---|---|---|
 /// | 0 | the whole text was put to `out` | none |
-/// | 1 | the words are not `show source FILE` or `compile FILE`, with a name of at most 4096 bytes | `usage: psic show source FILE \| compile FILE` |
+/// | 1 | the words are not `check FILE`, `show source FILE` or `compile FILE`, with a name of at most 4096 bytes | `usage: psic check FILE \| show source FILE \| compile FILE` |
 /// | 2 | a read of the file failed | `psic: cannot read FILE` |
 /// | 3 | a put failed | `psic: cannot write`, where that was of `out` |
 /// | 4 | the file is no program | `FILE:LINE:COLUMN: text CAUSE: ` and the cause in words |
+/// | 5 | a shape rule is the first to fail in the program, for `check` and `show source` | `FILE:LINE:COLUMN: rule RULE: ` and the rule in words |
 /// | 6 | the file has more than 1048576 bytes | `FILE: limit 1: longer than 1048576 bytes` |
+/// | 6 | a limit is the first to fail in the program, for `check` and `show source` | `FILE:LINE:COLUMN: limit LIMIT: VALUE exceeds GREATEST`, without a place where it is one of the whole program |
 /// | 10 | memory was wanted | `psic: no memory` |
 /// | 11 | the program is of no form that is built, for `compile` alone | `FILE:LINE:COLUMN: not built`, at its first name |
 ///
@@ -184,7 +190,7 @@ pub fn psi<F: Shelf, K: Sink, E: Sink>(
     ensures puts_counted { result ≢ 3
         → (K.faults out.new ≡ K.faults out.old) × (E.faults err.new ≡ E.faults err.old) }
     ensures reads_counted { result ≢ 2 → result ≢ 3 → result ≢ 10 → F.faults shelf.new ≡ F.faults shelf.old }
-    ensures statuses { Contains (0 ∷ 1 ∷ 2 ∷ 3 ∷ 4 ∷ 6 ∷ 10 ∷ 11 ∷ []) result }
+    ensures statuses { Contains (0 ∷ 1 ∷ 2 ∷ 3 ∷ 4 ∷ 5 ∷ 6 ∷ 10 ∷ 11 ∷ []) result }
     // What it leaves: the same files, counts that never fall, and at most so many bytes given.
     ensures unchanged { F.files shelf.new ≡ F.files shelf.old }
     ensures later { (F.faults shelf.old ≤ F.faults shelf.new)

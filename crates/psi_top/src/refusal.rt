@@ -2,7 +2,8 @@
 ghost use Rattle.std.specs.Fmt.{decimal};
 ghost use Rattle.std.specs.Prelude.{◌≡◌, ◌≤◌, ◌++◌, IfOk, OnOk, codes};
 ghost use Rattle.psi_top.specs.Answer.{IsSaid, outcome_of};
-ghost use Rattle.psi_top.specs.Line.{cause_words, place};
+ghost use Rattle.shape_check.specs.Rules.{greatest};
+ghost use Rattle.psi_top.specs.Line.{cause_words, place, place_or_whole, rule_words};
 ghost use Rattle.psi_top.specs.Outcome.{Outcome, line_of, status_of};
 ghost use Rattle.psi_top.specs.Put.{IsLinePut};
 ghost use Rattle.psi_top.specs.Views.{sink_view};
@@ -16,7 +17,7 @@ use text_tokens::Position;
 /// The status where a put failed.
 pub(crate) const CANNOT_WRITE_STATUS: u8 = 3;
 
-const USAGE: &[u8] = b"usage: psic show source FILE | compile FILE\n";
+const USAGE: &[u8] = b"usage: psic check FILE | show source FILE | compile FILE\n";
 
 const NO_MEMORY: &[u8] = b"psic: no memory\n";
 
@@ -38,6 +39,9 @@ const CAUSES: [&str; 14] = [
     "the expression is nested too deep",
 ];
 
+/// The greatest value of each limit on shapes and programs, by its number less 2.
+const GREATEST: [u64; 6] = [6, 16777216, 16777216, 1024, 1 << 40, 134217728];
+
 /// Why a command is refused.
 #[derive(Clone, Copy)]
 pub(crate) enum Refusal<'a> {
@@ -52,6 +56,19 @@ pub(crate) enum Refusal<'a> {
         name: &'a str,
         at: Position,
         cause: u8,
+    },
+    /// The program of the file of this name breaks this shape rule at this position.
+    Rule {
+        name: &'a str,
+        at: Position,
+        rule: u8,
+    },
+    /// The program of the file of this name exceeds this limit by this value, at this position or as a whole.
+    Limit {
+        name: &'a str,
+        at: Option<Position>,
+        which: u8,
+        value: u64,
     },
     /// The file of this name is of no form that is built.
     NotBuilt {
@@ -74,8 +91,37 @@ fn cause_words(cause: u8) -> &'static str
         .unwrap_or("")
 }
 
+/// The words for a shape rule.
+#[tactic(auto, unfolding(crate::specs::Line::rule_words))]
+fn rule_words(rule: u8) -> &'static str
+    ensures { result.now ≡ rule_words rule }
+{
+    match rule {
+        1 => "the name is already declared",
+        2 => "the name is not declared",
+        3 | 19 => "an extent is negative",
+        4 => "the length is negative",
+        5 => "the shapes differ",
+        6 => "the index is too long",
+        7 => "the index is outside the shape",
+        8 | 10 => "the list is too long",
+        9 => "more is taken than there is",
+        11 => "more is dropped than there is",
+        12 | 13 => "an axis is wanted",
+        14 => "the list has the wrong length",
+        15 => "the list is no permutation",
+        16 => "the dimensions differ",
+        17 | 21 => "an axis is wanted",
+        18 => "the extents after the first differ",
+        20 => "the totals differ",
+        22 => "the inner extents differ",
+        23 | 24 => "an axis is wanted",
+        _ => "",
+    }
+}
+
 /// Adds a number in decimal digits.
-fn push_number(line: &mut Vec<u8>, number: u32) -> Result<(), NoMemory>
+fn push_number(line: &mut Vec<u8>, number: u64) -> Result<(), NoMemory>
     ensures { OnOk result (line.new.items ≡ line.old.items ++ decimal number) }
 {
     let mut buffer = Buffer::new();
@@ -89,9 +135,9 @@ fn push_place(line: &mut Vec<u8>, name: &str, at: Position) -> Result<(), NoMemo
 {
     line.extend_from_slice(name.as_bytes())?;
     line.extend_from_slice(b":")?;
-    push_number(line, at.line)?;
+    push_number(line, u64::from(at.line))?;
     line.extend_from_slice(b":")?;
-    push_number(line, at.column)?;
+    push_number(line, u64::from(at.column))?;
     line.extend_from_slice(b": ")?;
     Ok(())
 }
@@ -102,9 +148,62 @@ fn push_cause(line: &mut Vec<u8>, cause: u8) -> Result<(), NoMemory>
         ≡ line.old.items ++ codes "text " ++ decimal cause ++ codes ": " ++ cause_words cause ++ codes "\n") }
 {
     line.extend_from_slice(b"text ")?;
-    push_number(line, u32::from(cause))?;
+    push_number(line, u64::from(cause))?;
     line.extend_from_slice(b": ")?;
     line.extend_from_slice(cause_words(cause).as_bytes())?;
+    line.extend_from_slice(b"\n")?;
+    Ok(())
+}
+
+/// Adds a shape rule with its words.
+fn push_rule(line: &mut Vec<u8>, rule: u8) -> Result<(), NoMemory>
+    ensures { OnOk result (line.new.items
+        ≡ line.old.items ++ codes "rule " ++ decimal rule ++ codes ": " ++ rule_words rule ++ codes "\n") }
+{
+    line.extend_from_slice(b"rule ")?;
+    push_number(line, u64::from(rule))?;
+    line.extend_from_slice(b": ")?;
+    line.extend_from_slice(rule_words(rule).as_bytes())?;
+    line.extend_from_slice(b"\n")?;
+    Ok(())
+}
+
+/// Adds a place of the file of this name, or that name where it is the file as a whole.
+fn push_place_or_whole(line: &mut Vec<u8>, name: &str, at: Option<Position>) -> Result<(), NoMemory>
+    ensures { OnOk result (line.new.items ≡ line.old.items ++ place_or_whole name.now at) }
+{
+    match at {
+        Some(at) => push_place(line, name, at),
+        None => {
+            line.extend_from_slice(name.as_bytes())?;
+            line.extend_from_slice(b": ")?;
+            Ok(())
+        }
+    }
+}
+
+/// The greatest value of a limit.
+fn greatest(which: u8) -> u64
+    ensures { result ≡ greatest which }
+{
+    let greatest: [u64; 6] = GREATEST;
+    match which {
+        2..=7 => greatest[(which - 2) as usize],
+        _ => 0,
+    }
+}
+
+/// Adds a limit with the value that exceeds it.
+fn push_limit(line: &mut Vec<u8>, which: u8, value: u64) -> Result<(), NoMemory>
+    ensures { OnOk result (line.new.items ≡ line.old.items ++ codes "limit " ++ decimal which
+        ++ codes ": " ++ decimal value ++ codes " exceeds " ++ decimal (greatest which) ++ codes "\n") }
+{
+    line.extend_from_slice(b"limit ")?;
+    push_number(line, u64::from(which))?;
+    line.extend_from_slice(b": ")?;
+    push_number(line, value)?;
+    line.extend_from_slice(b" exceeds ")?;
+    push_number(line, greatest(which))?;
     line.extend_from_slice(b"\n")?;
     Ok(())
 }
@@ -117,7 +216,8 @@ impl Refusal<'_> {
             Refusal::Usage => 1,
             Refusal::CannotRead(_) => 2,
             Refusal::Text { .. } => 4,
-            Refusal::TooLong(_) => 6,
+            Refusal::Rule { .. } => 5,
+            Refusal::TooLong(_) | Refusal::Limit { .. } => 6,
             Refusal::Memory => 10,
             Refusal::NotBuilt { .. } => 11,
         }
@@ -141,6 +241,19 @@ impl Refusal<'_> {
             Refusal::Text { name, at, cause } => {
                 push_place(&mut line, name, at)?;
                 push_cause(&mut line, cause)?;
+            }
+            Refusal::Rule { name, at, rule } => {
+                push_place(&mut line, name, at)?;
+                push_rule(&mut line, rule)?;
+            }
+            Refusal::Limit {
+                name,
+                at,
+                which,
+                value,
+            } => {
+                push_place_or_whole(&mut line, name, at)?;
+                push_limit(&mut line, which, value)?;
             }
             Refusal::NotBuilt { name, at } => {
                 push_place(&mut line, name, at)?;

@@ -33,7 +33,7 @@ psi_main:
     jalr x0, 0(x1)
 ";
 
-const USAGE: &str = "usage: psic show source FILE | compile FILE\n";
+const USAGE: &str = "usage: psic check FILE | show source FILE | compile FILE\n";
 
 /// What a call answered and put.
 #[derive(Drop)]
@@ -87,26 +87,6 @@ fn compile(alloc: Global, source: &[u8]) -> Result<Answer, Fail> {
     over_source(alloc, "compile", "p.moa", source)
 }
 
-fn show_source(alloc: Global, source: &[u8]) -> Result<Answer, Fail> {
-    over_source(alloc, "show source", "p.moa", source)
-}
-
-/// A text that is so often repeated, between two others.
-fn repeated(
-    alloc: Global,
-    before: &str,
-    text: &str,
-    count: u64,
-    after: &str,
-) -> Result<Vec<u8>, Fail> {
-    let mut bytes = Vec::from_slice(alloc, before.as_bytes())?;
-    for _ in 0..count {
-        bytes.extend_from_slice(text.as_bytes())?;
-    }
-    bytes.extend_from_slice(after.as_bytes())?;
-    Ok(bytes)
-}
-
 #[test]
 fn two_vectors_are_added_however_they_are_written(rt: HostRuntime) -> Result<(), Fail> {
     for source in [
@@ -148,158 +128,6 @@ fn other_programs_are_not_built_at_their_first_name(rt: HostRuntime) -> Result<(
         assert_eq!(rt; answer.status, 11, "{source}");
         assert_eq!(rt; answer.out.len(), 0, "{source}");
         assert_eq!(rt; str::from_utf8(&answer.err)?, line.as_str());
-        let answer = show_source(rt.alloc(), source.as_bytes())?;
-        assert_eq!(rt; answer.status, 0, "{source}");
-    }
-    Ok(())
-}
-
-#[test]
-fn sources_that_are_no_program_are_refused_with_their_cause(rt: HostRuntime) -> Result<(), Fail> {
-    let long_name = repeated(rt.alloc(), "psi 1\nin ", "n", 65, " 3")?;
-    let deep = repeated(rt.alloc(), "psi 1\nin A 3\nout C = ", "(", 128, "A")?;
-    for (source, said) in [
-        ("psi 1 out C = +", "1:15: text 1: these bytes form no token"),
-        (
-            "psi 9223372036854775808",
-            "1:5: text 2: the number is out of range",
-        ),
-        (
-            str::from_utf8(&long_name)?,
-            "2:4: text 3: the name is too long",
-        ),
-        ("", "1:1: text 4: the version psi 1 is wanted"),
-        ("psi 1\nin A 3 i32", "2:8: text 5: a statement is wanted"),
-        ("psi 1\nin A 3\n", "3:1: text 6: an out statement is wanted"),
-        ("psi 1\nlet add = 1", "2:5: text 7: a name is wanted"),
-        ("psi 1\nout C A", "2:7: text 8: the sign = is wanted"),
-        (
-            "psi 1\nin A 3\nout C = add A",
-            "3:14: text 9: an expression is wanted",
-        ),
-        (
-            "psi 1\nout C = (1 2)",
-            "2:12: text 10: the sign ) is wanted",
-        ),
-        (
-            "psi 1\nout C = take 1",
-            "2:14: text 11: the sign < is wanted",
-        ),
-        (
-            "psi 1\nout C = iota <1>",
-            "2:14: text 12: a number is wanted",
-        ),
-        (
-            "psi 1\nout C = reduce sub 1",
-            "2:16: text 13: an operator is wanted",
-        ),
-        (
-            str::from_utf8(&deep)?,
-            "3:137: text 14: the expression is nested too deep",
-        ),
-    ] {
-        let line = format!(in rt.alloc(); "k.moa:{said}\n")?;
-        for command in ["compile", "show source"] {
-            let answer = over_source(rt.alloc(), command, "k.moa", source.as_bytes())?;
-            assert_eq!(rt; answer.status, 4, "{source}");
-            assert_eq!(rt; answer.out.len(), 0, "{source}");
-            assert_eq!(rt; str::from_utf8(&answer.err)?, line.as_str());
-        }
-    }
-    Ok(())
-}
-
-#[test]
-fn the_longest_and_the_deepest_source_are_read(rt: HostRuntime) -> Result<(), Fail> {
-    let opened = repeated(rt.alloc(), "psi 1\nin A 3\nout C = ", "(", 127, "A")?;
-    let deep = repeated(rt.alloc(), str::from_utf8(&opened)?, ")", 127, "\n")?;
-    let answer = show_source(rt.alloc(), &deep)?;
-    assert_eq!(rt; answer.status, 0);
-    assert_eq!(rt; str::from_utf8(&answer.out)?, "psi 1\nin A 3\nout C = A\n");
-    let length = TWO_VECTORS.len() as u64 + 1;
-    let long = repeated(rt.alloc(), TWO_VECTORS, "x", 0, "#")?;
-    let long = repeated(
-        rt.alloc(),
-        str::from_utf8(&long)?,
-        "x",
-        1048576 - length,
-        "",
-    )?;
-    let answer = compile(rt.alloc(), &long)?;
-    assert_eq!(rt; answer.status, 0);
-    assert_eq!(rt; str::from_utf8(&answer.out)?, TWO_VECTORS_TEXT);
-    let longer = repeated(rt.alloc(), str::from_utf8(&long)?, "x", 1, "")?;
-    for command in ["compile", "show source"] {
-        let answer = over_source(rt.alloc(), command, "p.moa", &longer)?;
-        assert_eq!(rt; answer.status, 6);
-        assert_eq!(rt; answer.out.len(), 0);
-        assert_eq!(rt;
-            answer.err.as_slice(),
-            b"p.moa: limit 1: longer than 1048576 bytes\n".as_slice()
-        );
-    }
-    Ok(())
-}
-
-#[test]
-fn what_is_shown_is_shown_again(rt: HostRuntime) -> Result<(), Fail> {
-    for (source, shown) in [
-        ("psi 1 out C=7", "psi 1\nout C = 7\n"),
-        (
-            "psi 01 # sum\r\nin A 3\nin B 003 out C = (add (A) B)",
-            "psi 1\nin A 3\nin B 3\nout C = add A B\n",
-        ),
-        (
-            "psi 1 in A out C = sub A mul A 2",
-            "psi 1\nin A\nout C = sub A mul A 2\n",
-        ),
-        (
-            "psi 1 in A 2 3 let B = take < 1 -2 > (A) out C = reduce add (mul 2 B)",
-            "psi 1\nin A 2 3\nlet B = take <1 -2> A\nout C = reduce add mul 2 B\n",
-        ),
-        (
-            "psi 1 out C = psi <> drop <1> permute <0> iota 7",
-            "psi 1\nout C = psi <> drop <1> permute <0> iota 7\n",
-        ),
-        (
-            "psi 1 out C = reshape <-0 4> reverse transpose ravel iota 7",
-            "psi 1\nout C = reshape <0 4> reverse transpose ravel iota 7\n",
-        ),
-        (
-            "psi 1 in A 3 out C = inner max sub neg not abs A A",
-            "psi 1\nin A 3\nout C = inner max sub neg not abs A A\n",
-        ),
-        (
-            "psi 1 in A 3 out C = outer xor cat A A rotate -5 scan min A",
-            "psi 1\nin A 3\nout C = outer xor cat A A rotate -5 scan min A\n",
-        ),
-        (
-            "psi 1 in A 3 out C = quot A rem A 2",
-            "psi 1\nin A 3\nout C = quot A rem A 2\n",
-        ),
-        (
-            "psi 1 in A 3 out C = min A max A 2",
-            "psi 1\nin A 3\nout C = min A max A 2\n",
-        ),
-        (
-            "psi 1 in A 3 out C = eq A ne A lt A le A 2",
-            "psi 1\nin A 3\nout C = eq A ne A lt A le A 2\n",
-        ),
-        (
-            "psi 1 in A 3 out C = and A or A xor A 2",
-            "psi 1\nin A 3\nout C = and A or A xor A 2\n",
-        ),
-        (
-            "psi 1 in A 3 out C = reduce mul scan or reduce and scan max A",
-            "psi 1\nin A 3\nout C = reduce mul scan or reduce and scan max A\n",
-        ),
-    ] {
-        for text in [source, shown] {
-            let answer = show_source(rt.alloc(), text.as_bytes())?;
-            assert_eq!(rt; answer.status, 0, "{text}");
-            assert_eq!(rt; answer.err.len(), 0, "{text}");
-            assert_eq!(rt; str::from_utf8(&answer.out)?, shown);
-        }
     }
     Ok(())
 }
@@ -340,6 +168,8 @@ fn words_that_are_no_command_get_the_usage_line(rt: HostRuntime) -> Result<(), F
         "demo -1",
         "show tree p.moa",
         "show source",
+        "check",
+        "check p.moa q.moa",
         "show p.moa",
         "source p.moa",
         "show source p.moa q.moa",

@@ -76,6 +76,26 @@ impl Assembly {
         })
     }
 
+    /// A program that stands in a text: `places` has the line of that text, counted from 1, where each of its lines
+    /// stands. The condition is that the program is one of the format. Takes no memory.
+    pub fn at_lines(
+        header: Header,
+        areas: Vec<Area>,
+        lines: Vec<Line>,
+        places: Vec<u32>,
+    ) -> Assembly
+        requires fits { Fits header areas.items lines.items }
+        requires placed { length places.items ≡ length lines.items }
+        ensures { result ≡ record { header = header; areas = areas.items; lines = lines.items; places = places.items } }
+    {
+        Assembly {
+            header,
+            areas,
+            lines,
+            places,
+        }
+    }
+
     /// The header.
     pub fn header(&self) -> Header
         ensures { result ≡ self.now.header }

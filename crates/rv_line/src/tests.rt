@@ -315,3 +315,14 @@ psi_main:\n\
 .L64:\n\
 \x20   ebreak\n\
 .L65:\n";
+
+#[test]
+fn a_program_keeps_the_places_that_it_has_in_a_text(rt: HostRuntime) -> Result<(), NoMemory> {
+    let header = Header { steps: 1, spill: 2 };
+    let lines = vec![in rt.alloc(); Line::Fence; 1]?;
+    let places = vec![in rt.alloc(); 9; 1]?;
+    let program = Assembly::at_lines(header, Vec::new(rt.alloc()), lines, places);
+    assert_eq!(rt; program.block_words(), 2);
+    assert_eq!(rt; program.text_line(0), 9);
+    Ok(())
+}

@@ -1,9 +1,9 @@
 -- The row-major offset counts the elements of an array, and the index vectors stand in its order.
-use Rattle.std.specs.Prelude.{◌≡◌, ℕ, zero, suc, ◌+◌, ◌*◌, ◌%◌, ◌<◌, List, [], ◌∷◌, ◌++◌, map, length, slice_index_or}
+use Rattle.std.specs.Prelude.{◌≡◌, ℕ, zero, suc, ◌+◌, ◌*◌, ◌%◌, ◌<◌, ◌≤◌, List, [], ◌∷◌, ◌++◌, map, length, slice_index_or}
 use Rattle.std.specs.List.{flat_map, range_with_len}
 use Rattle.std.proofs.Common.{refl, ap, sym, ◌∙◌, arith, length-append}
 use Rattle.std.proofs.lemmas.List.{get_or_append_left, get_or-append-add, get_or-map, length-map}
-use Rattle.std.proofs.Math.Nat.{div-add-mod, div-lt_iff_lt-mul, mod-lt, mul-le-mul_right}
+use Rattle.std.proofs.Math.Nat.{div-add-mod, div-lt_iff_lt-mul, mod-lt, mul-le-mul_left, mul-le-mul_right}
 use Rattle.std.proofs.lemmas.Nat.{div-mul-add, mod-mul-add}
 use Rattle.shapes_core.specs.Gamma.{IsIndex, gamma, rows, ungamma}
 use Rattle.shapes_core.specs.Shape.{total}
@@ -32,8 +32,36 @@ gamma-below [] (n ∷ shape) h = absurd h
 gamma-below (k ∷ index) [] h = absurd h
 gamma-below (k ∷ index) (n ∷ shape) h = row-below k n (total shape) (gamma index shape) h.0 (gamma-below index shape h.1)
 
+-- what is counted so far, with the next axis, is no more than the whole offset
+gamma-step : (so_far k n : ℕ) (index shape : List ℕ) → IsIndex index shape →
+    so_far * n + k ≤ so_far * total (n ∷ shape) + gamma (k ∷ index) (n ∷ shape)
+gamma-step so_far k n index shape h =
+    let t = total shape in
+    let below = gamma-below index shape h in
+    let positive : 1 ≤ t = omega (arith, below) in
+    let more = mul-le-mul_left (so_far * n + k) positive in
+    let e : (so_far * n + k) * t ≡ so_far * (n * t) + k * t = grind arith in
+    omega (arith, more, e)
+
+pub gamma-next : (so_far : ℕ) {k n : ℕ} {left_index left_shape index shape : List ℕ} → (left_index ≡ k ∷ index) × (left_shape ≡ n ∷ shape) → IsIndex left_index left_shape →
+    so_far * n + k ≤ so_far * total left_shape + gamma left_index left_shape
+gamma-next so_far {k} {n} {index = index} {shape = shape} next h = rw (next.0, next.1) (gamma-step so_far k n index shape (rw (next.0, next.1) at h).1)
+
+-- an index vector has one number an axis
+pub length-IsIndex : (index shape : List ℕ) → IsIndex index shape → length index ≡ length shape
+length-IsIndex [] [] h = refl
+length-IsIndex [] (n ∷ shape) h = absurd h
+length-IsIndex (k ∷ index) [] h = absurd h
+length-IsIndex (k ∷ index) (n ∷ shape) h = ap suc (length-IsIndex index shape h.1)
+
+-- where no axis is left, what is counted is the whole offset
+pub gamma-ended : (so_far : ℕ) (index shape : List ℕ) → IsIndex index shape → length index ≡ 0 → so_far * total shape + gamma index shape ≡ so_far
+gamma-ended so_far [] [] h none = omega arith
+gamma-ended so_far [] (n ∷ shape) h none = absurd h
+gamma-ended so_far (k ∷ index) shape h none = absurd (omega (arith, none))
+
 -- an offset below the total has an index vector
-total-positive : (offset n t : ℕ) → offset < n * t → 0 < t
+pub total-positive : (offset n t : ℕ) → offset < n * t → 0 < t
 total-positive offset n zero h = omega (arith, h)
 total-positive offset n (suc t) h = omega arith
 

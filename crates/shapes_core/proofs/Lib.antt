@@ -1,3 +1,4 @@
+pub mod DigitLemmas
 pub mod GammaLemmas
 pub mod NameLemmas
 pub mod PaddedLemmas

@@ -1,4 +1,4 @@
-use Rattle.std.proofs.Common.{◌≡◌, ℕ, ◌+◌, ◌*◌, ◌<◌, ◌≤◌, max, true, false, List, [], ◌∷◌, length, drop, get_or, sym, ap, ◌∙◌, arith}
+use Rattle.std.proofs.Common.{◌≡◌, ℕ, zero, suc, ◌+◌, ◌*◌, ◌<◌, ◌≤◌, max, true, false, List, [], ◌∷◌, length, drop, get_or, sym, ap, ◌∙◌, arith}
 use Rattle.std.specs.Prelude.{nat_le, IsTrue}
 use Rattle.std.specs.List.{list_all}
 use Rattle.std.proofs.Math.Nat.{mul-le-mul, mul-le-mul_left, mul_assoc}
@@ -14,6 +14,13 @@ span_pos [] = omega arith
 span_pos (extent ∷ extents) =
     let first : 1 ≤ max extent 1 = omega arith in
     omega (arith, mul-le-mul first (span_pos extents))
+
+-- and so a total is no greater than the span
+total_least : (extents : List ℕ) → total extents ≤ span extents
+total_least [] = omega arith
+total_least (extent ∷ extents) =
+    let first : extent ≤ max extent 1 = omega arith in
+    mul-le-mul first (total_least extents)
 
 -- one more extent is taken from what is left of a total
 pub total_more : (so_far : ℕ) (extents : List ℕ) (i : ℕ) → i < length extents → so_far * total (drop i extents) ≡ so_far * get_or extents i 0 * total (drop (i + 1) extents)
@@ -61,3 +68,22 @@ span_passed so_far extents i h e within all =
     let one : so_far * span [] ≡ span extents = rw ended at e in
     let none : true ≡ list_all (λ extent. nat_le extent 16777216) extents = rw ended at all in
     grind (arith, nat_tests)
+
+-- a product so far that keeps what it comes to is within the span
+pub span_step : (so_far : ℕ) (extents : List ℕ) (i : ℕ) → i < length extents → so_far * span (drop i extents) ≡ span extents → so_far * max (get_or extents i 0) 1 ≤ span extents
+span_step so_far extents i h e =
+    let above = span_above (so_far * max (get_or extents i 0) 1) (drop (i + 1) extents) in
+    omega (arith, above, span_more so_far extents i h)
+
+-- fewer extents have no greater span
+pub span_drop : (n : ℕ) (extents : List ℕ) → span (drop n extents) ≤ span extents
+span_drop zero extents = omega arith
+span_drop (suc n) [] = omega arith
+span_drop (suc n) (extent ∷ extents) =
+    let first : 1 ≤ max extent 1 = omega arith in
+    let more : 1 * span extents ≤ max extent 1 * span extents = mul-le-mul first (omega arith) in
+    omega (arith, more, span_drop n extents)
+
+-- what a shape says of its total
+pub total_within : (extents : List ℕ) → IsTrue (is_shape extents) → total extents ≤ 16777216
+total_within extents h = omega (arith, span_within extents h, total_least extents)

@@ -1,5 +1,7 @@
-use Rattle.std.specs.Prelude.{ℕ, ◌*◌, max, Bool, ◌&&◌, nat_le, IsTrue, List, [], ◌∷◌, length}
+-- Shapes of arrays. After Mullin, A Mathematics of Arrays (1988); the limits are this project's own.
+use Rattle.std.specs.Prelude.{ℕ, ◌*◌, max, Bool, ◌&&◌, nat_eq, nat_le, IsTrue, List, [], ◌∷◌, length, drop}
 use Rattle.std.specs.List.{list_all}
+use Rattle.std.specs.Cmp.Lexicographic.{pointwise}
 
 -- how many elements an array of this shape has: the product of its extents, and 1 for a scalar
 abbrev pub total : List ℕ → ℕ
@@ -11,13 +13,25 @@ abbrev pub span : List ℕ → ℕ
 span [] = 1
 span (extent ∷ extents) = max extent 1 * span extents
 
+-- the greatest extent, and the greatest span
+abbrev pub greatest_extent : ℕ
+greatest_extent = 16777216
+
+-- the greatest number of axes
+abbrev pub most_axes : ℕ
+most_axes = 6
+
 -- each extent is at most 16777216, and so is the span
 abbrev pub are_small : List ℕ → Bool
-are_small extents = list_all (λ extent. nat_le extent 16777216) extents && nat_le (span extents) 16777216
+are_small extents = list_all (λ extent. nat_le extent greatest_extent) extents && nat_le (span extents) greatest_extent
 
 -- at most 6 small extents
 abbrev pub is_shape : List ℕ → Bool
-is_shape extents = nat_le (length extents) 6 && are_small extents
+is_shape extents = nat_le (length extents) most_axes && are_small extents
 
 abbrev pub IsShape : List ℕ → Type 0
 IsShape extents = IsTrue (is_shape extents)
+
+-- whether two shapes have the same extents after the first
+abbrev pub same_tail : List ℕ → List ℕ → Bool
+same_tail left right = pointwise nat_eq (drop 1 left) (drop 1 right)

@@ -7,6 +7,7 @@
 mod area;
 pub mod laws;
 mod name;
+mod offset;
 mod shape;
 pub mod shape_examples;
 #[cfg(test)]
@@ -14,4 +15,5 @@ mod tests;
 
 pub use area::{Area, AreaKind, Declared, NoMemory};
 pub use name::Name;
-pub use shape::{Shape, total};
+pub use offset::{digit, gamma, weight};
+pub use shape::{Shape, same_tail, total};

@@ -1,15 +1,23 @@
 // Names of arrays.
 ghost use Rattle.std.specs.Prelude.{◌≡◌, ◌↔◌, IsSome, IfSome, IsTrue};
+ghost use Rattle.std.specs.Cmp.{partial_equiv_from_equiv};
+ghost use Rattle.std.specs.Cmp.Lexicographic.{nat_list_eq_equiv};
+ghost use Rattle.std.specs.Cmp.Rules.{hashing};
+ghost use Rattle.std.specs.Hash as fed;
 ghost use Rattle.std.specs.List.{list_all};
+ghost use Rattle.std.specs.Str.{bytes_eq};
+ghost use Rattle.std.proofs.Common.{rules};
 ghost use Rattle.shapes_core.specs.Name.{IsName, is_letter, is_name, is_name_byte};
 
+use std::hash::{Hash, Hasher};
 use std::marker::Model;
 
 /// The greatest number of bytes in a name.
 const LONGEST: usize = 64;
 
-/// The name of an array: an ASCII letter followed by at most 63 letters, digits or `_`.
-#[derive(Clone, Copy)]
+/// The name of an array: an ASCII letter followed by at most 63 letters, digits or `_`. Two names are equal where
+/// their bytes are, so a name serves as the key of a map.
+#[derive(Clone, Copy, Debug)]
 pub struct Name {
     bytes: [u8; 64],
     len: usize,
@@ -54,6 +62,30 @@ impl Name {
         ensures name { IsName self.now }
     {
         &self.bytes[..self.len]
+    }
+}
+
+impl PartialEq for Name {
+    ghost eq = { bytes_eq };
+
+    ghost laws = { partial_equiv_from_equiv nat_list_eq_equiv };
+
+    fn eq(&self, other: &Name) -> bool {
+        self.bytes() == other.bytes()
+    }
+}
+
+impl Eq for Name {
+    ghost laws = { nat_list_eq_equiv };
+}
+
+impl Hash for Name {
+    ghost hash_input = { fed.slice fed.u8 };
+
+    ghost respects_eq = { Prim.search (hashing, rules) };
+
+    fn hash<H: Hasher>(&self, state: &mut H) {
+        self.bytes().hash(state);
     }
 }
 

@@ -1,6 +1,8 @@
 // Shapes of arrays.
-ghost use Rattle.std.specs.Prelude.{◌≡◌, ◌↔◌, IsSome, IfSome, ◌≤◌};
-ghost use Rattle.shapes_core.specs.Shape.{IsShape, are_small, total};
+ghost use Rattle.std.specs.Prelude.{◌≡◌, ◌↔◌, IsSome, IfSome, ◌≤◌, ◌<◌, length, nat_eq};
+ghost use Rattle.std.specs.Cmp.{partial_equiv_from_equiv};
+ghost use Rattle.std.specs.Cmp.Lexicographic.{nat_list_eq_equiv, pointwise};
+ghost use Rattle.shapes_core.specs.Shape.{IsShape, are_small, same_tail, total};
 
 use std::marker::Model;
 
@@ -11,8 +13,8 @@ const MOST_AXES: usize = 6;
 const GREATEST: u64 = 16777216;
 
 /// The shape of an array: at most 6 extents, of which each, and their span, is at most 16777216.
-/// A scalar has no extent.
-#[derive(Clone, Copy)]
+/// A scalar has no extent. Two shapes are equal where their lists of extents are.
+#[derive(Clone, Copy, Debug)]
 pub struct Shape {
     extents: [u64; 6],
     axes: usize,
@@ -60,6 +62,20 @@ impl Shape {
     }
 }
 
+impl PartialEq for Shape {
+    ghost eq = { pointwise nat_eq };
+
+    ghost laws = { partial_equiv_from_equiv nat_list_eq_equiv };
+
+    fn eq(&self, other: &Shape) -> bool {
+        self.extents() == other.extents()
+    }
+}
+
+impl Eq for Shape {
+    ghost laws = { nat_list_eq_equiv };
+}
+
 /// Whether each extent, and the span, is within `GREATEST`.
 fn are_small(extents: &[u64]) -> bool
     ensures { result ≡ are_small extents.now }
@@ -88,4 +104,13 @@ pub fn total(shape: &Shape) -> u64
         total *= extent;
     }
     total
+}
+
+/// Whether two shapes have the same extents after the first.
+pub fn same_tail(left: &Shape, right: &Shape) -> bool
+    requires left { 0 < length left.now }
+    requires right { 0 < length right.now }
+    ensures value { result ≡ same_tail left.now right.now }
+{
+    left.extents()[1..] == right.extents()[1..]
 }

@@ -1,8 +1,8 @@
 // Shapes, names and offsets that are worked out from the definitions: no body runs.
 ghost use Rattle.std.specs.Prelude.{◌≡◌, true, false, [], ◌∷◌, codes, map, replicate};
-ghost use Rattle.shapes_core.specs.Gamma.{IsIndex, gamma, rows, ungamma};
+ghost use Rattle.shapes_core.specs.Gamma.{IsIndex, digit, digits, gamma, rows, ungamma, weight};
 ghost use Rattle.shapes_core.specs.Name.{is_name};
-ghost use Rattle.shapes_core.specs.Shape.{is_shape, span, total};
+ghost use Rattle.shapes_core.specs.Shape.{greatest_extent, is_shape, most_axes, same_tail, span, total};
 
 /// Names, and words that are none.
 pub fn names()
@@ -16,6 +16,7 @@ pub fn names()
 pub fn limits()
     ensures totals { map total ([] ∷ (2 ∷ 3 ∷ 4 ∷ []) ∷ (4 ∷ 0 ∷ 5 ∷ []) ∷ []) ≡ 1 ∷ 24 ∷ 0 ∷ [] }
     ensures spans { map span ([] ∷ (2 ∷ 3 ∷ 4 ∷ []) ∷ (4 ∷ 0 ∷ 5 ∷ []) ∷ []) ≡ 1 ∷ 24 ∷ 20 ∷ [] }
+    ensures most { greatest_extent ∷ most_axes ∷ [] ≡ 16777216 ∷ 6 ∷ [] }
     ensures shapes { map is_shape ([] ∷ (1 ∷ 2 ∷ 3 ∷ 4 ∷ 5 ∷ 6 ∷ []) ∷ (16777216 ∷ []) ∷ (4096 ∷ 4096 ∷ []) ∷ [])
         ≡ replicate 4 true }
     ensures no_shapes { map is_shape (replicate 7 1 ∷ (16777217 ∷ []) ∷ (4097 ∷ 4096 ∷ []) ∷ (4097 ∷ 0 ∷ 4096 ∷ []) ∷ [])
@@ -37,4 +38,24 @@ pub fn offsets()
     ensures last { IsIndex (1 ∷ 2 ∷ []) (2 ∷ 3 ∷ []) }
     ensures beyond { IsIndex (1 ∷ 3 ∷ []) (2 ∷ 3 ∷ []) → ⊥ }
     ensures too_few_axes { IsIndex (1 ∷ []) (2 ∷ 3 ∷ []) → ⊥ }
+{}
+
+/// Each digit is found by itself. An extent 0 counts as 1 in a weight, and the digits begin again after the total.
+pub fn weights_and_digits()
+    ensures weights { map (weight (2 ∷ 3 ∷ 4 ∷ [])) (0 ∷ 1 ∷ 2 ∷ []) ≡ 12 ∷ 4 ∷ 1 ∷ [] }
+    ensures no_rows { map (weight (2 ∷ 0 ∷ 4 ∷ [])) (0 ∷ 1 ∷ 2 ∷ []) ≡ 4 ∷ 4 ∷ 1 ∷ [] }
+    ensures no_columns { map (weight (2 ∷ 3 ∷ 0 ∷ [])) (0 ∷ 1 ∷ 2 ∷ []) ≡ 3 ∷ 1 ∷ 1 ∷ [] }
+    ensures of_14 { digit 14 12 2 ∷ digit 14 4 3 ∷ digit 14 1 4 ∷ [] ≡ 1 ∷ 0 ∷ 2 ∷ [] }
+    ensures all { map (digits (2 ∷ 3 ∷ 4 ∷ [])) (1 ∷ 4 ∷ 14 ∷ 23 ∷ [])
+        ≡ (0 ∷ 0 ∷ 1 ∷ []) ∷ (0 ∷ 1 ∷ 0 ∷ []) ∷ (1 ∷ 0 ∷ 2 ∷ []) ∷ (1 ∷ 2 ∷ 3 ∷ []) ∷ [] }
+    ensures again { digits (2 ∷ 3 ∷ 4 ∷ []) 38 ≡ 1 ∷ 0 ∷ 2 ∷ [] }
+    ensures scalar { digits [] 0 ≡ [] }
+{}
+
+/// Extents after the first: any first extents, in order, and as many on both sides.
+pub fn tails()
+    ensures same { map (same_tail (2 ∷ 3 ∷ 4 ∷ [])) ((2 ∷ 3 ∷ 4 ∷ []) ∷ (7 ∷ 3 ∷ 4 ∷ []) ∷ []) ≡ true ∷ true ∷ [] }
+    ensures vectors { same_tail (2 ∷ []) (0 ∷ []) ≡ true }
+    ensures other { map (same_tail (2 ∷ 3 ∷ 4 ∷ [])) ((2 ∷ 4 ∷ 3 ∷ []) ∷ (2 ∷ 3 ∷ 5 ∷ []) ∷ (2 ∷ 3 ∷ []) ∷ (2 ∷ 3 ∷ 4 ∷ 1 ∷ []) ∷ (2 ∷ []) ∷ [])
+        ≡ replicate 5 false }
 {}

@@ -49,3 +49,43 @@ fn shapes_keep_their_limits_and_totals(rt: HostRuntime) {
         }
     }
 }
+
+#[test]
+fn offsets_are_counted_row_by_row(rt: HostRuntime) {
+    let shape = Shape::new(&[2, 3, 4]).expect(&rt, "a shape");
+    for (index, offset) in [
+        ([0, 0, 0], 0),
+        ([0, 0, 1], 1),
+        ([0, 1, 0], 4),
+        ([1, 0, 2], 14),
+        ([1, 2, 3], 23),
+    ] {
+        for axis in 0..3 {
+            let found = digit(offset, weight(&shape, axis), shape.extents()[axis]);
+            assert_eq!(rt; found, index[axis], "{index:?}");
+        }
+        assert_eq!(rt; gamma(&index, &shape), offset, "{index:?}");
+    }
+    let empty = Shape::new(&[2, 0, 4]).expect(&rt, "a shape");
+    assert_eq!(rt; weight(&empty, 0), 4);
+}
+
+#[test]
+fn shapes_and_names_are_compared(rt: HostRuntime) {
+    let left = Shape::new(&[2, 3, 4]).expect(&rt, "a shape");
+    for (rows, columns, equal, tails) in [
+        (2, 3, true, true),
+        (7, 3, false, true),
+        (2, 5, false, false),
+    ] {
+        let right = Shape::new(&[rows, columns, 4]).expect(&rt, "a shape");
+        assert_eq!(rt; left == right, equal, "{rows} {columns}");
+        assert_eq!(rt; same_tail(&left, &right), tails, "{rows} {columns}");
+    }
+    let matrix = Shape::new(&[2, 3]).expect(&rt, "a shape");
+    assert!(rt; left != matrix);
+    assert!(rt; !same_tail(&left, &matrix));
+    let name = Name::new(b"ab").expect(&rt, "a name");
+    assert!(rt; name == Name::new(b"ab").expect(&rt, "a name"));
+    assert!(rt; name != Name::new(b"a").expect(&rt, "a name"));
+}

@@ -6,7 +6,7 @@ pub returns-clause-stands : goal.returns-clause-stands
 returns-clause-stands c =
     IfOk-weaker c.begin_expression.result _ _
     (λ which begins first before w.
-    wanted_begins c.pools_keep.ensures.node c.pools_keep.ensures.numbers first c.args.source.now c.begin_expression.new.source before c.args.builder.now
+    wanted_begins c.pools_keep.ensures.node c.pools_keep.ensures.numbers c.pools_keep.ensures.places first c.args.source.now c.begin_expression.new.source before c.args.builder.now
     c.begin_expression.new.builder c.args.frames.now which w begins.1 (is_below c.args.frames.now c.len.result c.len.ensures begins.0))
     c.begin_expression.ensures.head
 

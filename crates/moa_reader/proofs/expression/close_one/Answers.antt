@@ -3,5 +3,5 @@ use Rattle.moa_reader.proofs.expression.close_one.Goals as goal
 
 pub returns-clause-stands : goal.returns-clause-stands
 returns-clause-stands c = λ first here before frames read.
-    one_closes c.pools_keep.ensures.node first here before c.args.builder.now c.node-2.new.self frames c.args.form c.args.at c.args.of c.in_ok-node.node c.node.result
+    one_closes c.pools_keep.ensures.node c.pools_keep.ensures.places first here before c.args.builder.now c.node-2.new.self frames c.args.form c.args.at c.args.of c.in_ok-node.node c.node.result
     read c.node.ensures.operands c.node.ensures.lists c.node.ensures.expr c.in_ok-node.ensures.added c.in_ok-node.ensures.number c.in_ok-node.ensures.tree

@@ -5,7 +5,7 @@ use Rattle.moa_reader.proofs.source.Source.advance.Goals as goal
 
 pub returns : goal.returns
 returns c =
-    next_placed c.self.inside.scanner c.next_token-token.new.self c.next_token-token.result c.next_token-token.ensures
+    next_placed c.self.inside.version c.self.inside.scanner c.next_token-token.new.self c.next_token-token.result c.next_token-token.ensures
     (lexeme_read c.of-self-inside.result) c.of-self-inside.ensures
-    ∙ sym (following_on (lexeme_read c.self.inside.lexeme) c.self.inside.scanner (λ e. c.requires (ap (λ s. s.lexeme) (sym c.self.view_is) ∙ e)))
+    ∙ sym (following_on c.self.inside.version (lexeme_read c.self.inside.lexeme) c.self.inside.scanner (λ e. c.requires (ap (λ s. s.lexeme) (sym c.self.view_is) ∙ e)))
     ∙ ap (λ s. s.behind) c.self.view_is

@@ -1,0 +1,12 @@
+use Rattle.moa_tree.specs.Pools.{tree_of}
+use Rattle.psi_top.proofs.program.text_for.Goals as goal
+
+pub returns-in_ok-report_on-in-Check-clause-made : goal.returns-in_ok-report_on-in-Check-clause-made
+returns-in_ok-report_on-in-Check-clause-made c =
+    let checked = c.in_ok-checked-in-Check.ensures in
+    rw c.in-Check.is (record { tree = tree_of c.in_ok-checked-in-Check.field-0.pools; read = checked.read; can = c.in_ok-report_on-in-Check.ensures.accepted; made = c.in_ok-report_on-in-Check.ensures.made })
+
+pub returns-in_ok-print-in-ShowSource-clause-made : goal.returns-in_ok-print-in-ShowSource-clause-made
+returns-in_ok-print-in-ShowSource-clause-made c =
+    let checked = c.in_ok-checked-in-ShowSource.ensures in
+    rw c.in-ShowSource.is (record { tree = tree_of c.in_ok-checked-in-ShowSource.field-0.pools; read = checked.read; can = c.program-in-ShowSource.ensures.checked.accepted; made = rw (← c.program-in-ShowSource.ensures.value) c.in_ok-print-in-ShowSource.ensures.canonical })

@@ -1,0 +1,6 @@
+use Rattle.std.proofs.Common.{◌≡◌, drop}
+use Rattle.shape_check.specs.Rules.{each_entry, is_place}
+use Rattle.shape_check.proofs.entries.are_places.Given as goal
+
+abbrev pub invariant-loop-axis : goal.invariant-loop-axis
+invariant-loop-axis l = each_entry is_place l.list l.extents ≡ each_entry is_place (drop l.axis l.list) (drop l.axis l.extents)

@@ -1,0 +1,16 @@
+pub mod Blocks
+pub mod Broken
+pub mod Costs
+pub mod Examples
+pub mod Jobs
+pub mod Judged
+pub mod Kept
+pub mod Layout
+pub mod Operated
+pub mod Progress
+pub mod Rules
+pub mod Scans
+pub mod Statements
+pub mod Uses
+pub mod Verdict
+pub mod Written
