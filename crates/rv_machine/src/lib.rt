@@ -1,0 +1,16 @@
+// The interpreter that runs lines of RV64IM on registers and a block of memory.
+#![tactic(auto)]
+
+mod arithmetic;
+mod chains;
+mod flow;
+pub mod laws;
+mod machine;
+mod memory;
+mod registers;
+mod step;
+#[cfg(test)]
+mod tests;
+mod text;
+
+pub use machine::{End, Regs, run};
