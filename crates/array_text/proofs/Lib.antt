@@ -1,0 +1,15 @@
+pub mod BytesLemmas
+pub mod EndLemmas
+pub mod FileLemmas
+pub mod FoundLemmas
+pub mod FrontLemmas
+pub mod GrammarLemmas
+pub mod IndexLemmas
+pub mod PassLemmas
+pub mod PlaceLemmas
+pub mod PrintLemmas
+pub mod ReadBack
+pub mod SlotLemmas
+pub mod SourceLemmas
+pub mod TestLemmas
+pub mod WholeLemmas
