@@ -1,0 +1,7 @@
+use Rattle.std.proofs.Common.{◌≡◌, take}
+use Rattle.std.specs.Str.Parse.{digits_value}
+use Rattle.rv_reader.specs.Marks.{capped}
+use Rattle.rv_reader.proofs.operands.digits_value.Given as goal
+
+abbrev pub invariant-loop-digit : goal.invariant-loop-digit
+invariant-loop-digit l = l.value ≡ capped (digits_value 10 (take l.digit-index l.digits))

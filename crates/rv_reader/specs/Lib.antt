@@ -1,0 +1,17 @@
+pub mod AreaRows
+pub mod Bodies
+pub mod BodyLines
+pub mod Cuts
+pub mod Errors
+pub mod Examples
+pub mod Forms
+pub mod Kinds
+pub mod Lines
+pub mod Marks
+pub mod Operands
+pub mod Parts
+pub mod Refusals
+pub mod RowsSoFar
+pub mod Split
+pub mod Tracked
+pub mod Views
