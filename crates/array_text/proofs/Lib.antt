@@ -1,6 +1,7 @@
 pub mod BytesLemmas
 pub mod EndLemmas
 pub mod FileLemmas
+pub mod FitLemmas
 pub mod FoundLemmas
 pub mod FrontLemmas
 pub mod GrammarLemmas
@@ -12,4 +13,5 @@ pub mod ReadBack
 pub mod SlotLemmas
 pub mod SourceLemmas
 pub mod TestLemmas
+pub mod ValueLemmas
 pub mod WholeLemmas

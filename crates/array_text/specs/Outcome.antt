@@ -1,7 +1,8 @@
 -- What becomes of an array file, by one pass from the left over its tokens. A refusal has the number of a line and a cause: 1 no token,
 -- 2 a number out of range, 3 `array` or a name is wanted, 4 an extent is none, 5 the name is not declared, 6 it came before, 7 the shape is
 -- another, 8 a value is wanted, 9 a declared array is missing. This project's own.
-use Rattle.std.specs.Prelude.{◌≡◌, ℕ, zero, suc, ℤ, pos, Bool, false, ◌==◌, if◌then◌else◌, List, [], ◌∷◌, ◌++◌, length, codes, replicate, position, is_some, slice_set, slice_index_or, option_map}
+use Rattle.std.specs.Prelude.{◌≡◌, ℕ, zero, suc, ℤ, pos, Bool, false, ◌==◌, if◌then◌else◌, List, [], ◌∷◌, ◌++◌, length, codes, replicate}
+use Rattle.std.specs.Prelude.{position, is_some, slice_set, slice_index_or, option_map}
 use Rattle.std.specs.declared.option.Option.{Option}
 use Rattle.std.specs.declared.option.Option.TheVariants.{None, Some}
 use Rattle.std.specs.List.{fold}

@@ -1,11 +1,11 @@
 -- What is left of an array file, and what an error says of what becomes of it. This project's own.
-use Rattle.std.specs.Prelude.{◌≡◌, ℕ, List, ◌∷◌, ⊤}
+use Rattle.std.specs.Prelude.{◌≡◌, ℕ, ◌-◌, ◌≤◌, ℤ, List, ◌∷◌, length, ⊤}
 use Rattle.shapes_core.specs.declared.area.Declared.{Declared}
 use Rattle.text_tokens.specs.declared.token.Token.{Token}
 use Rattle.text_tokens.specs.Tokens.{Remaining, following}
 use Rattle.array_text.specs.declared.error.DataError.{DataError}
 use Rattle.array_text.specs.Lines.{Lined, lined}
-use Rattle.array_text.specs.Outcome.{Came, Outcome, Want, at_array, outcome_along}
+use Rattle.array_text.specs.Outcome.{Came, Outcome, Want, at_array, filled, outcome_along}
 
 -- the token that comes next, its line, and the tokens behind it
 pub record Ahead : Type 0 where
@@ -37,3 +37,11 @@ Passes declared before old after new = outcome_along declared before (all old) �
 -- these tokens are refused so behind what was read
 abbrev pub IsRefusedWith : List Declared → Outcome → Ahead → DataError → Type 0
 IsRefusedWith declared before old error = Explains (outcome_along declared before (all old)) error
+
+-- of so many values of an array these are read: what becomes of the tokens behind them becomes of those behind more of them
+pub record Fills (count : ℕ) (before : List ℤ) (old : List Lined) (after : List ℤ) (new : List Lined) : Type 0 where
+  pub passes : (declared : List Declared) (came : Came) (place : ℕ)
+      → outcome_along declared (filled came place before (count - length before)) old
+      ≡ outcome_along declared (filled came place after (count - length after)) new
+  pub no_longer : length new ≤ length old
+  pub no_fewer : length before ≤ length after

@@ -1,5 +1,6 @@
 // The values of declared arrays, and of those that came so far.
-ghost use Rattle.std.specs.Prelude.{◌≡◌, ◌<◌, [], length, map, replicate, slice_index_or, slice_set, IfOk, IfSome, Some, None, is_some};
+ghost use Rattle.std.specs.Prelude.{◌≡◌, ◌<◌, [], length, map, replicate, slice_index_or};
+ghost use Rattle.std.specs.Prelude.{slice_set, IfOk, IfSome, Some, None, is_some};
 ghost use Rattle.std.specs.List.{list_all};
 ghost use Rattle.array_text.specs.Outcome.{all_of};
 
@@ -7,8 +8,8 @@ use shapes_core::NoMemory;
 use std::alloc::Global;
 use std::marker::Model;
 
-/// The values of the declared arrays, in row-major order, an array at the place where it is declared.
-/// Contracts see the list of these lists.
+/// The values of the declared arrays, in row-major order, an array at the place where it is
+/// declared. Contracts see the list of these lists.
 #[derive(Drop)]
 pub struct Arrays {
     lists: Vec<Vec<i64>>,
@@ -53,7 +54,8 @@ impl Model for Slots {
 
     ghost Value = { Came };
 
-    ghost view = { λ slots. slots_of slots.came.items (map (λ list. list.items) slots.lists.items) };
+    ghost view = { λ slots. slots_of slots.came.items
+        (map (λ list. list.items) slots.lists.items) };
 
     ghost invariant = { λ slots. length slots.came.items ≡ length slots.lists.items };
 }

@@ -4,7 +4,8 @@ ghost use Rattle.std.specs.Prelude.{◌≡◌};
 use shapes_core::NoMemory;
 use std::alloc::{AllocError, AllocFailed};
 
-/// Why an array file is not read: it is refused at a line, counted from 1, with a cause from 1 to 9, or memory was wanted.
+/// Why an array file is not read: it is refused at a line, counted from 1, with a cause from 1 to
+/// 9, or memory was wanted.
 #[derive(Clone, Copy, Debug, PartialEq, Eq)]
 pub enum DataError {
     Text { line: u32, cause: u8 },

@@ -1,9 +1,12 @@
 // The head of an array.
-ghost use Rattle.std.specs.Prelude.{◌≡◌, ◌<◌, ◌≤◌, ℕ, List, [], length, true, false, Some, None, is_some, position, slice_index_or, IfErr, IfOk, IfSome, OnOk, MatchResult};
+ghost use Rattle.std.specs.Prelude.{◌≡◌, ◌<◌, ◌≤◌, ℕ, List, [], length, true, false, Some, None};
+ghost use Rattle.std.specs.Prelude.{is_some, position, slice_index_or};
+ghost use Rattle.std.specs.Prelude.{IfErr, IfOk, IfSome, OnOk, MatchResult};
 ghost use Rattle.std.specs.Str.{bytes_eq};
 ghost use Rattle.shapes_core.specs.declared.area.Declared.{Declared as Announced};
 ghost use Rattle.array_text.specs.Index.{IsIndex};
-ghost use Rattle.array_text.specs.Outcome.{Came, Head, Outcome, Want, filled, head_of, is_on, place_of, with_extent};
+ghost use Rattle.array_text.specs.Outcome.{Came, Head, Outcome, Want, filled, head_of, is_on};
+ghost use Rattle.array_text.specs.Outcome.{place_of, with_extent};
 ghost use Rattle.array_text.specs.Sources.{IsRefusedWith, Passes};
 
 use crate::arrays::Slots;
@@ -80,7 +83,8 @@ impl Extents {
 #[tactic(auto, using(crate::proofs::PassLemmas::refused_along))]
 pub(crate) fn name(source: &mut Source<'_>, first: u32) -> Result<Name, DataError>
     ensures passes { IfOk result (λ name. (declared : List Announced) (came : Came)
-        → Passes declared (Outcome.Goes came (Want.AName first)) source.old (Outcome.Goes came (Want.AnExtent first name (Some []))) source.new) }
+        → Passes declared (Outcome.Goes came (Want.AName first)) source.old
+        (Outcome.Goes came (Want.AnExtent first name (Some []))) source.new) }
     ensures fewer { OnOk result (length source.new.behind < length source.old.behind) }
     ensures refused { IfErr result (λ error. (declared : List Announced) (came : Came)
         → IsRefusedWith declared (Outcome.Goes came (Want.AName first)) source.old error) }
@@ -95,10 +99,13 @@ pub(crate) fn name(source: &mut Source<'_>, first: u32) -> Result<Name, DataErro
 fn extent(source: &mut Source<'_>, first: u32, extents: &mut Extents) -> Result<(), DataError>
     requires { is_on first source.old.token source.old.line ≡ true }
     ensures passes { OnOk result ((declared : List Announced) (came : Came) (name : List ℕ)
-        → Passes declared (Outcome.Goes came (Want.AnExtent first name extents.old)) source.old (Outcome.Goes came (Want.AnExtent first name extents.new)) source.new) }
+        → Passes declared (Outcome.Goes came (Want.AnExtent first name extents.old)) source.old
+        (Outcome.Goes came (Want.AnExtent first name extents.new)) source.new) }
     ensures fewer { OnOk result (length source.new.behind < length source.old.behind) }
-    ensures refused { IfErr result (λ error. (declared : List Announced) (came : Came) (name : List ℕ)
-        → IsRefusedWith declared (Outcome.Goes came (Want.AnExtent first name extents.old)) source.old error) }
+    ensures refused { IfErr result
+        (λ error. (declared : List Announced) (came : Came) (name : List ℕ)
+        → IsRefusedWith declared (Outcome.Goes came (Want.AnExtent first name extents.old))
+        source.old error) }
 {
     let token = source.on_heads_line(first)?;
     extents.add(token)?;
@@ -112,12 +119,16 @@ pub(crate) fn read_extents(
     source: &mut Source<'_>,
     first: u32,
 ) -> Result<Extents, DataError>
-    ensures passes { IfOk result (λ extents. (declared : List Announced) (came : Came) (name : List ℕ)
-        → Passes declared (Outcome.Goes came (Want.AnExtent first name (Some []))) source.old (Outcome.Goes came (Want.AnExtent first name extents)) source.new) }
+    ensures passes { IfOk result
+        (λ extents. (declared : List Announced) (came : Came) (name : List ℕ)
+        → Passes declared (Outcome.Goes came (Want.AnExtent first name (Some []))) source.old
+        (Outcome.Goes came (Want.AnExtent first name extents)) source.new) }
     ensures ends { OnOk result (is_on first source.new.token source.new.line ≡ false) }
     ensures fewer { OnOk result (length source.new.behind ≤ length source.old.behind) }
-    ensures refused { IfErr result (λ error. (declared : List Announced) (came : Came) (name : List ℕ)
-        → IsRefusedWith declared (Outcome.Goes came (Want.AnExtent first name (Some []))) source.old error) }
+    ensures refused { IfErr result
+        (λ error. (declared : List Announced) (came : Came) (name : List ℕ)
+        → IsRefusedWith declared (Outcome.Goes came (Want.AnExtent first name (Some [])))
+        source.old error) }
 {
     let mut extents = Extents::new(alloc);
     'line: while source.is_on(first) {
@@ -126,7 +137,8 @@ pub(crate) fn read_extents(
     Ok(extents)
 }
 
-/// Where the array of a head stands, and how many values it has, or the cause for which the head is refused.
+/// Where the array of a head stands, and how many values it has, or the cause for which the head is
+/// refused.
 fn verdict(
     declared: &[Declared],
     index: &Index<'_>,
@@ -136,7 +148,8 @@ fn verdict(
 ) -> Result<(usize, u64), u8>
     requires places { length slots.now ≡ length declared.now }
     requires index { IsIndex declared.now index.now }
-    ensures head { MatchResult result (λ begun. head_of declared.now slots.now name.now extents.now ≡ Head.Begins begun.0 begun.1)
+    ensures head { MatchResult result
+        (λ begun. head_of declared.now slots.now name.now extents.now ≡ Head.Begins begun.0 begun.1)
         (λ cause. head_of declared.now slots.now name.now extents.now ≡ Head.Fails cause) }
     ensures within { IfOk result (λ begun. begun.0 < length declared.now) }
     ensures small { IfOk result (λ begun. begun.1 ≤ 16777216) }
@@ -170,11 +183,13 @@ pub(crate) fn begin(
     requires places { length slots.now ≡ length declared.now }
     requires index { IsIndex declared.now index.now }
     requires ends { is_on first source.now.token source.now.line ≡ false }
-    ensures passes { IfOk result (λ begun. Passes declared.now (Outcome.Goes slots.now (Want.AnExtent first name.now extents.now)) source.now
+    ensures passes { IfOk result (λ begun. Passes declared.now
+        (Outcome.Goes slots.now (Want.AnExtent first name.now extents.now)) source.now
         (filled slots.now begun.0 [] begun.1) source.now) }
     ensures within { IfOk result (λ begun. begun.0 < length declared.now) }
     ensures small { IfOk result (λ begun. begun.1 ≤ 16777216) }
-    ensures refused { IfErr result (λ error. IsRefusedWith declared.now (Outcome.Goes slots.now (Want.AnExtent first name.now extents.now)) source.now error) }
+    ensures refused { IfErr result (λ error. IsRefusedWith declared.now
+        (Outcome.Goes slots.now (Want.AnExtent first name.now extents.now)) source.now error) }
 {
     match verdict(declared, index, slots, name, extents) {
         Ok(begun) => Ok(begun),

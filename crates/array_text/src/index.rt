@@ -25,8 +25,10 @@ pub(crate) fn index_of<'a>(alloc: Global, declared: &'a [Declared]) -> Result<In
 
 /// The place of the declared array of this name.
 pub(crate) fn place_of(index: &Index<'_>, name: &Name) -> Option<usize>
-    ensures value { (declared : List Announced) → IsIndex declared index.now → result ≡ place_of declared name.now }
-    ensures within { (declared : List Announced) → IsIndex declared index.now → IfSome result (λ place. place < length declared) }
+    ensures value { (declared : List Announced) → IsIndex declared index.now
+        → result ≡ place_of declared name.now }
+    ensures within { (declared : List Announced) → IsIndex declared index.now
+        → IfSome result (λ place. place < length declared) }
 {
     index.get(name.bytes()).copied()
 }

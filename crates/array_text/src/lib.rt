@@ -1,7 +1,7 @@
 // Array files: the values of declared arrays as text, read and printed.
 //
-// Contracts see a file as the list of its tokens with their lines, and the arrays that were read as the list of
-// their values, an array at the place where it is declared.
+// Contracts see a file as the list of its tokens with their lines, and the arrays that were read as
+// the list of their values, an array at the place where it is declared.
 #![tactic(auto)]
 
 mod arrays;
@@ -16,6 +16,7 @@ pub mod reading_examples;
 mod source;
 #[cfg(test)]
 mod tests;
+mod values;
 
 pub use arrays::Arrays;
 pub use error::DataError;

@@ -1,24 +1,27 @@
 // The printed form of an array.
-ghost use Rattle.std.specs.Prelude.{◌≡◌, ◌+◌, ◌-◌, ◌*◌, ◌≤◌, ◌++◌, [], ◌∷◌, length, map, FitsSigned, IfOk, OnOk};
+ghost use Rattle.std.specs.Prelude.{◌≡◌, ◌+◌, ◌-◌, ◌*◌, ◌≤◌, ◌++◌, [], ◌∷◌, length, map};
+ghost use Rattle.std.specs.Prelude.{FitsSigned, IfOk, OnOk};
 ghost use Rattle.std.specs.Int.{w64};
 ghost use Rattle.std.specs.Fmt.{decimal, signed_decimal};
 ghost use Rattle.std.specs.List.{All, flat_map, join_with_byte};
 ghost use Rattle.shapes_core.specs.Shape.{total};
 ghost use Rattle.array_text.specs.Outcome.{Outcome, outcome_of};
-ghost use Rattle.array_text.specs.Printed.{head_line, printed, row_count, row_length, row_line, row_lines};
+ghost use Rattle.array_text.specs.Printed.{head_line, printed};
+ghost use Rattle.array_text.specs.Printed.{row_count, row_length, row_line, row_lines};
 
 use crate::laws::printed_arrays_read_back;
 use itoa::Buffer;
 use shapes_core::{Declared, NoMemory, Shape, total};
 use std::alloc::Global;
 
-/// The printed form of an array with these values, which are in row-major order: the line `array NAME EXTENTS`, and
-/// then a line for each row of the last axis, a blank between two values. A scalar has one line with its value, and
-/// an array without values no further line.
+/// The printed form of an array with these values, which are in row-major order: the line `array
+/// NAME EXTENTS`, and then a line for each row of the last axis, a blank between two values. A
+/// scalar has one line with its value, and an array without values no further line.
 pub fn print_array(alloc: Global, declared: &Declared, values: &[i64]) -> Result<Vec<u8>, NoMemory>
     requires { length values.now ≡ total declared.now.shape }
     ensures printed { IfOk result (λ text. text.items ≡ printed declared.now values.now) }
-    ensures again { IfOk result (λ text. outcome_of (declared.now ∷ []) text.items ≡ Outcome.Accepted (values.now ∷ [])) }
+    ensures again { IfOk result (λ text. outcome_of (declared.now ∷ []) text.items
+        ≡ Outcome.Accepted (values.now ∷ [])) }
 {
     printed_arrays_read_back();
     are_words(values);
@@ -56,7 +59,8 @@ fn push_head(out: &mut Vec<u8>, declared: &Declared) -> Result<(), NoMemory>
 }
 
 fn push_extents(out: &mut Vec<u8>, extents: &[u64]) -> Result<(), NoMemory>
-    ensures { OnOk result (out.new.items ≡ out.old.items ++ flat_map (λ extent. 32 ∷ decimal extent) extents.now) }
+    ensures { OnOk result (out.new.items ≡ out.old.items
+        ++ flat_map (λ extent. 32 ∷ decimal extent) extents.now) }
 {
     for extent in extents {
         push_text(out, b" ")?;
@@ -85,7 +89,8 @@ fn row_count(shape: &Shape) -> u64
 }
 
 fn push_rows(out: &mut Vec<u8>, shape: &Shape, values: &[i64]) -> Result<(), NoMemory>
-    ensures { OnOk result (out.new.items ≡ out.old.items ++ row_lines (row_count shape.now) (row_length shape.now) values.now) }
+    ensures { OnOk result (out.new.items ≡ out.old.items
+        ++ row_lines (row_count shape.now) (row_length shape.now) values.now) }
 {
     let length = row_length(shape) as usize;
     let count = row_count(shape);
@@ -108,7 +113,8 @@ fn push_row(out: &mut Vec<u8>, row: &[i64]) -> Result<(), NoMemory>
 
 /// Numbers, with a blank between two.
 fn push_entries(out: &mut Vec<u8>, numbers: &[i64]) -> Result<(), NoMemory>
-    ensures { OnOk result (out.new.items ≡ out.old.items ++ join_with_byte 32 (map signed_decimal numbers.now)) }
+    ensures { OnOk result (out.new.items ≡ out.old.items
+        ++ join_with_byte 32 (map signed_decimal numbers.now)) }
 {
     if let Some((first, others)) = numbers.split_first() {
         push_number(out, *first)?;
@@ -119,7 +125,8 @@ fn push_entries(out: &mut Vec<u8>, numbers: &[i64]) -> Result<(), NoMemory>
 
 /// Numbers, with a blank before each.
 fn push_numbers(out: &mut Vec<u8>, numbers: &[i64]) -> Result<(), NoMemory>
-    ensures { OnOk result (out.new.items ≡ out.old.items ++ flat_map (λ value. 32 ∷ signed_decimal value) numbers.now) }
+    ensures { OnOk result (out.new.items ≡ out.old.items
+        ++ flat_map (λ value. 32 ∷ signed_decimal value) numbers.now) }
 {
     for number in numbers {
         push_text(out, b" ")?;

@@ -5,10 +5,14 @@ ghost use Rattle.array_text.specs.Outcome.{Outcome, outcome_of};
 
 /// Files that give the declared arrays their values.
 pub fn accepted()
-    ensures in_order { outcome (codes "array A 2\n7 -8\narray B\n9\n") ≡ Outcome.Accepted ((pos 7 ∷ negsuc 7 ∷ []) ∷ (pos 9 ∷ []) ∷ []) }
-    ensures other_order { outcome (codes "array B # one value\r\n\t009 array A 02 # two\n\n-0\n1") ≡ Outcome.Accepted ((pos 0 ∷ pos 1 ∷ []) ∷ (pos 9 ∷ []) ∷ []) }
-    ensures rows { outcome_of (a_matrix ∷ []) (codes "array C 2 3\n1 2 3 4\n5\n6") ≡ Outcome.Accepted ((pos 1 ∷ pos 2 ∷ pos 3 ∷ pos 4 ∷ pos 5 ∷ pos 6 ∷ []) ∷ []) }
-    ensures no_values { outcome_of (an_empty ∷ []) (codes "array E 2 0") ≡ Outcome.Accepted ([] ∷ []) }
+    ensures in_order { outcome (codes "array A 2\n7 -8\narray B\n9\n")
+        ≡ Outcome.Accepted ((pos 7 ∷ negsuc 7 ∷ []) ∷ (pos 9 ∷ []) ∷ []) }
+    ensures other_order { outcome (codes "array B # one value\r\n\t009 array A 02 # two\n\n-0\n1")
+        ≡ Outcome.Accepted ((pos 0 ∷ pos 1 ∷ []) ∷ (pos 9 ∷ []) ∷ []) }
+    ensures rows { outcome_of (a_matrix ∷ []) (codes "array C 2 3\n1 2 3 4\n5\n6")
+        ≡ Outcome.Accepted ((pos 1 ∷ pos 2 ∷ pos 3 ∷ pos 4 ∷ pos 5 ∷ pos 6 ∷ []) ∷ []) }
+    ensures no_values { outcome_of (an_empty ∷ []) (codes "array E 2 0")
+        ≡ Outcome.Accepted ([] ∷ []) }
     ensures nothing { outcome_of [] (codes "# no array\n") ≡ Outcome.Accepted [] }
 {}
 
@@ -17,8 +21,10 @@ pub fn token_refusals()
     ensures sign { outcome (codes "array A 2\n7 <") ≡ Outcome.Refused 2 1 }
     ensures sign_in_front { outcome (codes "\n=") ≡ Outcome.Refused 2 1 }
     ensures no_token { outcome (codes "array A 2\n7 8-") ≡ Outcome.Refused 2 1 }
-    ensures out_of_range { outcome (codes "array A 2\n9223372036854775807\n9223372036854775808") ≡ Outcome.Refused 3 2 }
-    ensures on_a_heads_line { outcome (codes "array Z -1 9223372036854775808 (") ≡ Outcome.Refused 1 2 }
+    ensures out_of_range { outcome (codes "array A 2\n9223372036854775807\n9223372036854775808")
+        ≡ Outcome.Refused 3 2 }
+    ensures on_a_heads_line { outcome (codes "array Z -1 9223372036854775808 (")
+        ≡ Outcome.Refused 1 2 }
     ensures as_a_name { outcome (codes "array\n(") ≡ Outcome.Refused 2 1 }
 {}
 
@@ -40,7 +46,8 @@ pub fn head_refusals()
     ensures repeated { outcome (codes "array B\n9\narray B 2\n9") ≡ Outcome.Refused 3 6 }
     ensures shape { outcome (codes "array A 3\n7 8") ≡ Outcome.Refused 1 7 }
     ensures values_on_the_line { outcome (codes "array B 9") ≡ Outcome.Refused 1 7 }
-    ensures head_behind_an_empty { outcome_of (an_empty ∷ an_empty ∷ []) (codes "array E 2 0\narray E 2 0\n") ≡ Outcome.Refused 2 6 }
+    ensures head_behind_an_empty { outcome_of (an_empty ∷ an_empty ∷ [])
+        (codes "array E 2 0\narray E 2 0\n") ≡ Outcome.Refused 2 6 }
 {}
 
 /// Where a value is wanted, or the file ends too early.

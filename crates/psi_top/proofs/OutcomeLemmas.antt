@@ -1,9 +1,6 @@
-use Rattle.std.proofs.Common.{◌≡◌, ℕ, ◌+◌, ◌<◌, ◌≤◌, inl, inr, List, length, replicate, Option, Some, None, cond, refl, sym, ap, subst, ◌∙◌, arith}
-use Rattle.std.specs.Prelude.{◌≢◌, Err, IsOk, IsSomeAnd}
-use Rattle.std.proofs.lemmas.List.{length-replicate}
-use Rattle.std.specs.Cmp.{eq_by_cmp_equiv}
-use Rattle.std.specs.Cmp.Lexicographic.{nat_list_cmp_total}
-use Rattle.std.specs.FinMap.{empty, get, get-insert, insert}
+use Rattle.std.proofs.Common.{◌≡◌, ℕ, ◌≤◌, List, length, Option, refl, sym, ap, subst, ◌∙◌, arith}
+use Rattle.std.specs.Prelude.{◌≢◌, Err, IsOk}
+use Rattle.std.specs.FinMap.{get}
 use Rattle.text_tokens.specs.declared.token.Position.{Position}
 use Rattle.moa_tree.specs.Expr.{Tree}
 use Rattle.moa_tree.specs.Readings.{Reads}
@@ -15,16 +12,14 @@ use Rattle.psi_compile.specs.Errors.{IsFailing, failed_at}
 use Rattle.psi_compile.specs.FirstForm.{IsFirstForm}
 use Rattle.psi_compile.specs.declared.error.CompileError.{CompileError}
 use Rattle.psi_compile.specs.declared.error.CompileError.TheVariants as error
-use Rattle.psi_edges.specs.Causes.{raised}
-use Rattle.psi_edges.specs.Files.{Files, OnFile}
-use Rattle.psi_top.specs.Command.{IsCommand, IsMisuse}
-use Rattle.psi_top.specs.Line.{exceeded_line, longer_line, no_memory_line, not_built_line, rule_line, text_line, usage_line}
+use Rattle.psi_edges.specs.Files.{Files}
+use Rattle.psi_top.specs.Command.{IsCommand, IsRun}
+use Rattle.psi_top.specs.Line.{exceeded_line, no_memory_line, not_built_line, rule_line, text_line}
 use Rattle.psi_top.specs.Made.{CanMake, IsCauseFor}
-use Rattle.psi_top.specs.Outcome.{AreFiles, IsDue, IsOutcome, IsSourceOutcome, Outcome, most_read}
-use Rattle.psi_top.specs.Outcome.IsOutcome.{usage, missing, found}
+use Rattle.psi_top.specs.Outcome.{IsOutcome, IsSourceOutcome, Outcome, Reached, run_outcome}
+use Rattle.psi_top.specs.Outcome.IsOutcome.{usage, missing, found, runs}
 use Rattle.psi_top.specs.Outcome.IsSourceOutcome.{too_long, refused, not_built, fails, made}
 use Rattle.psi_top.specs.Outcome.Outcome.{Refuses, Makes}
-use Rattle.psi_top.specs.Views.{ShelfView}
 use Rattle.psi_top.specs.declared.command.Task.{Task}
 use Rattle.psi_top.specs.declared.command.Task.TheVariants.{Check, ShowSource, Compile}
 
@@ -39,6 +34,16 @@ same_command words ShowSource Compile name other a b = let both = sym a.form ∙
 same_command words Compile Check name other a b = let both = sym a.form ∙ b.form in absurd (cc)
 same_command words Compile ShowSource name other a b = let both = sym a.form ∙ b.form in absurd (cc)
 same_command words Compile Compile name other a b = let both = sym a.form ∙ b.form in (refl, cc)
+
+-- words are one run
+pub same_run : (words : List (List ℕ)) (assembly another arrays others : List ℕ) → IsRun words assembly arrays → IsRun words another others → (assembly ≡ another) × (arrays ≡ others)
+same_run words assembly another arrays others a b = let both = sym a.form ∙ b.form in (cc, cc)
+
+-- and no command on a source besides
+pub not_both : (words : List (List ℕ)) (task : Task) (name assembly arrays : List ℕ) → IsCommand words task name → IsRun words assembly arrays → ⊥
+not_both words Check name assembly arrays a b = let both = sym a.form ∙ b.form in cc
+not_both words ShowSource name assembly arrays a b = let both = sym a.form ∙ b.form in cc
+not_both words Compile name assembly arrays a b = let both = sym a.form ∙ b.form in cc
 
 -- so there is one file that they name
 same_found : (words : List (List ℕ)) (files : Files) (task another : Task) (name other : List ℕ) (first again : Option (List ℕ)) → IsCommand words task name → IsCommand words another other → get files name ≡ first → get files other ≡ again → first ≡ again
@@ -95,20 +100,30 @@ module _ (one_reading : (text : List ℕ) (first second : Tree) → Reads text f
   one_source task name source one other read other_read (made a r can) (made b s could) = (ap (λ tree. Makes task tree) (one_reading source _ _ r s), refl)
 
   -- words come to one outcome over files
-  pub one_outcome : (words : List (List ℕ)) (files : Files) (one other : Outcome) (read other_read : ℕ) → IsOutcome words files one read → IsOutcome words files other other_read → (one ≡ other) × (read ≡ other_read)
-  one_outcome words files one other read other_read (usage m) (usage n) = (refl, refl)
-  one_outcome words files one other read other_read (usage m) (missing b there) = absurd (m _ _ b)
-  one_outcome words files one other read other_read (usage m) (found b there s) = absurd (m _ _ b)
-  one_outcome words files one other read other_read (missing a at) (usage n) = absurd (n _ _ a)
-  one_outcome words files one other read other_read (missing a at) (missing b there) = let same = same_command words _ _ _ _ a b in (rw same.1 refl, refl)
-  one_outcome words files one other read other_read (missing a at) (found b there s) = let same = same_found words files _ _ _ _ _ _ a b at there in absurd (cc)
-  one_outcome words files one other read other_read (found a at r) (usage n) = absurd (n _ _ a)
-  one_outcome words files one other read other_read (found a at r) (missing b there) = let same = same_found words files _ _ _ _ _ _ a b at there in absurd (cc)
-  one_outcome words files one other read other_read (found {task = task} {name = name} {source = source} a at r) (found {task = another} {name = again} {source = text} b there s) =
+  pub one_outcome : (words : List (List ℕ)) (files later : Files) (one other : Outcome) (read other_read : ℕ) → IsOutcome words files later one read → IsOutcome words files later other other_read → (one ≡ other) × (read ≡ other_read)
+  one_outcome words files later one other read other_read (usage m) (usage n) = (refl, refl)
+  one_outcome words files later one other read other_read (usage m) (missing b there) = absurd (m.no_source _ _ b)
+  one_outcome words files later one other read other_read (usage m) (found b there s) = absurd (m.no_source _ _ b)
+  one_outcome words files later one other read other_read (usage m) (runs b) = absurd (m.no_run _ _ b)
+  one_outcome words files later one other read other_read (missing a at) (usage n) = absurd (n.no_source _ _ a)
+  one_outcome words files later one other read other_read (missing a at) (missing b there) = let same = same_command words _ _ _ _ a b in (rw same.1 refl, refl)
+  one_outcome words files later one other read other_read (missing a at) (found b there s) = let same = same_found words files _ _ _ _ _ _ a b at there in absurd (cc)
+  one_outcome words files later one other read other_read (missing a at) (runs b) = absurd (not_both words _ _ _ _ a b)
+  one_outcome words files later one other read other_read (found a at r) (usage n) = absurd (n.no_source _ _ a)
+  one_outcome words files later one other read other_read (found a at r) (missing b there) = let same = same_found words files _ _ _ _ _ _ a b at there in absurd (cc)
+  one_outcome words files later one other read other_read (found {task = task} {name = name} {source = source} a at r) (found {task = another} {name = again} {source = text} b there s) =
       let command = same_command words task another name again a b in
       let both = same_found words files _ _ _ _ _ _ a b at there in
       let same : source ≡ text = cc in
       one_source task name source one other read other_read r (rw (sym command.0, sym command.1, sym same) at s)
+  one_outcome words files later one other read other_read (found a at r) (runs b) = absurd (not_both words _ _ _ _ a b)
+  one_outcome words files later one other read other_read (runs a) (usage n) = absurd (n.no_run _ _ a)
+  one_outcome words files later one other read other_read (runs a) (missing b there) = absurd (not_both words _ _ _ _ b a)
+  one_outcome words files later one other read other_read (runs a) (found b there s) = absurd (not_both words _ _ _ _ b a)
+  one_outcome words files later one other read other_read (runs {assembly = assembly} {arrays = arrays} a) (runs {assembly = another} {arrays = others} b) =
+      let same = same_run words assembly another arrays others a b in
+      let both : run_outcome files later assembly arrays ≡ run_outcome files later another others = rw (same.0, same.1) refl in
+      (ap (λ (reached : Reached). reached.0) both, ap (λ (reached : Reached). reached.1) both)
 
 -- what a source comes to where a task cannot be done for this reason
 abbrev pub said : List ℕ → CompileError → Outcome
@@ -147,42 +162,3 @@ module _ (task : Task) (name source : List ℕ) (short : length source ≤ 10485
       by_task ShowSource is (error.NotBuilt at) some c = absurd (c.1 tt)
       by_task Compile is (error.NotBuilt at) some c = not_built short is c.0
       by_task t is error.Memory some c = absurd (some refl)
-
--- there are files of each length
-long_file : (n : ℕ) → (file : List ℕ) × (n < length file)
-long_file n = (replicate (n + 1) 0, omega (arith, length-replicate {A = ℕ} (n + 1) 0))
-
--- where a shelf tells no files, there are files of which one is as wanted
-file_at : (told : Option Files) (name example : List ℕ) (P : List ℕ → Type 0) → P example → OnFile told name P → (files : Files) × AreFiles told files × (file : List ℕ) × (get files name ≡ Some file) × P file
-file_at None name example P fits on =
-    let none : Files = empty in
-    let files : Files = insert none name example in
-    let there : get files name ≡ Some example = get-insert nat_list_cmp_total none name example name ∙ ap (λ b. cond b (Some example) (get none name)) ((eq_by_cmp_equiv nat_list_cmp_total).refl name) in
-    (files, tt, example, there, fits)
-file_at (Some files) name example P fits on = at (get files name) refl on
-  where
-    at : (found : Option (List ℕ)) → get files name ≡ found → IsSomeAnd found P → (told : Files) × (files ≡ told) × (file : List ℕ) × (get told name ≡ Some file) × P file
-    at None is on = elim on [ ]
-    at (Some file) is on = (files, refl, file, is, on)
-
--- the usage is due of words that are no command
-pub due_usage : (words : List (List ℕ)) (shelf : ShelfView) → IsMisuse words → IsDue words shelf shelf (Refuses 1 usage_line)
-due_usage words shelf misuse = IsDue.over_files (some_files shelf.files).1 (IsOutcome.usage misuse) (inr (refl, refl)) refl
-  where
-    some_files : (told : Option Files) → (files : Files) × AreFiles told files
-    some_files None = (empty, tt)
-    some_files (Some files) = (files, refl)
-
-module _ (words : List (List ℕ)) (old new : ShelfView) (task : Task) (name : List ℕ) (command : IsCommand words task name) (faults : new.faults ≡ old.faults) where
-  -- the file is too long
-  pub due_too_long : OnFile old.files name (λ file. 1048576 < length file) → new.given ≡ raised old.given most_read → IsDue words old new (Refuses 6 (longer_line name))
-  due_too_long on given =
-      let long = long_file 1048576 in
-      let file = file_at old.files name long.0 (λ file. 1048576 < length file) long.1 on in
-      IsDue.over_files file.1 (found command file.3 (too_long file.4)) (inl given) faults
-
-  -- the file was read, and came to this outcome
-  pub due_source : (bytes : List ℕ) → OnFile old.files name (λ file. bytes ≡ file) → new.given ≡ raised old.given (length bytes) → (outcome : Outcome) → IsSourceOutcome task name bytes outcome (length bytes) → IsDue words old new outcome
-  due_source bytes on given outcome is =
-      let file = file_at old.files name bytes (λ file. bytes ≡ file) refl on in
-      IsDue.over_files file.1 (found command file.3 (subst (λ source. IsSourceOutcome task name source outcome (length bytes)) file.4 is)) (inl given) faults

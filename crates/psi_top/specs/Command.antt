@@ -3,7 +3,7 @@ use Rattle.std.specs.Prelude.{ℕ, ◌≡◌, ◌≤◌, List, [], ◌∷◌, �
 use Rattle.psi_top.specs.declared.command.Task.{Task}
 use Rattle.psi_top.specs.declared.command.Task.TheVariants.{Check, ShowSource, Compile}
 
--- the words with which a command begins
+-- the words with which a command on a source begins
 abbrev pub words_of : Task → List (List ℕ)
 words_of Check = codes "check" ∷ []
 words_of ShowSource = codes "show" ∷ codes "source" ∷ []
@@ -14,6 +14,18 @@ pub record IsCommand (words : List (List ℕ)) (task : Task) (name : List ℕ) :
   pub form : words ≡ words_of task ++ name ∷ []
   pub short : length name ≤ 4096
 
+-- the words are `run` and the names of an assembly text and of its arrays, each of at most 4096 bytes
+pub record IsRun (words : List (List ℕ)) (assembly arrays : List ℕ) : Type 0 where
+  pub form : words ≡ codes "run" ∷ assembly ∷ arrays ∷ []
+  pub short_assembly : length assembly ≤ 4096
+  pub short_arrays : length arrays ≤ 4096
+
 -- the words are no command
-abbrev pub IsMisuse : List (List ℕ) → Type 0
-IsMisuse words = (task : Task) (name : List ℕ) → IsCommand words task name → ⊥
+pub record IsMisuse (words : List (List ℕ)) : Type 0 where
+  pub no_source : (task : Task) (name : List ℕ) → IsCommand words task name → ⊥
+  pub no_run : (assembly arrays : List ℕ) → IsRun words assembly arrays → ⊥
+
+-- the words ask for something of the files of these names, in the order in which they are read
+pub data Asks (words : List (List ℕ)) : List (List ℕ) → Type 0 where
+  source : {task : Task} {name : List ℕ} → IsCommand words task name → Asks words (name ∷ [])
+  run : {assembly arrays : List ℕ} → IsRun words assembly arrays → Asks words (assembly ∷ arrays ∷ [])

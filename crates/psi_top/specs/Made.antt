@@ -1,5 +1,5 @@
 -- Which text is made of a source.
-use Rattle.std.specs.Prelude.{ℕ, ◌≡◌, List, IsOk, ⊤}
+use Rattle.std.specs.Prelude.{ℕ, ◌≡◌, List, Option, IsOk, ⊤}
 use Rattle.moa_tree.specs.Canonical.{canonical}
 use Rattle.moa_tree.specs.Expr.{Tree}
 use Rattle.moa_tree.specs.Readings.{Reads}
@@ -9,6 +9,11 @@ use Rattle.psi_compile.specs.Errors.{IsCause, IsUnchecked}
 use Rattle.psi_compile.specs.declared.error.CompileError.{CompileError}
 use Rattle.psi_compile.specs.declared.error.CompileError.TheVariants as error
 use Rattle.psi_compile.specs.FirstForm.{IsFirstForm}
+use Rattle.psi_edges.specs.Files.{Files, OnFile}
+use Rattle.rv_line.specs.Parts.{Parts}
+use Rattle.rv_line.specs.Spells.{Spells}
+use Rattle.array_run.specs.Ran.{Prints, ran}
+use Rattle.psi_top.specs.Command.{IsCommand, IsRun}
 use Rattle.psi_top.specs.Report.{report}
 use Rattle.psi_top.specs.declared.command.Task.{Task}
 use Rattle.psi_top.specs.declared.command.Task.TheVariants.{Check, ShowSource, Compile}
@@ -31,6 +36,17 @@ pub record IsMade (task : Task) (source text : List ℕ) : Type 0 where
   pub read : Reads source tree
   pub can : CanMake task tree
   pub made : IsTextFor task tree text
+
+-- the text is what the run of an assembly text on an array file prints
+pub record IsRunOf (assembly file text : List ℕ) : Type 0 where
+  pub program : Parts
+  pub spelled : Spells assembly program
+  pub prints : ran program file ≡ Prints text
+
+-- the text is what the words ask for of the files of a shelf, where it tells them
+pub data IsDone (words : List (List ℕ)) (told : Option Files) (text : List ℕ) : Type 0 where
+  of_source : {task : Task} {name : List ℕ} → IsCommand words task name → OnFile told name (λ source. IsMade task source text) → IsDone words told text
+  of_run : {assembly arrays : List ℕ} → IsRun words assembly arrays → OnFile told assembly (λ program. OnFile told arrays (λ file. IsRunOf program file text)) → IsDone words told text
 
 -- the program is of no form that is built
 abbrev pub IsUnbuilt : CompileError → Type 0

@@ -1,6 +1,7 @@
 // What the words ask for.
-ghost use Rattle.std.specs.Prelude.{◌≡◌, ◌≢◌, ◌↔◌, codes, map, IsTrue, MatchOption, string_bytes};
-ghost use Rattle.psi_top.specs.Command.{IsCommand, IsMisuse, words_of};
+ghost use Rattle.std.specs.Prelude.{◌≡◌, ◌≢◌, ◌↔◌, ◌<◌, ◌≤◌, ℕ, List, codes, length, map, IsTrue, MatchOption, string_bytes};
+ghost use Rattle.psi_top.specs.Answer.{IsAsked};
+ghost use Rattle.psi_top.specs.Command.{IsCommand, IsMisuse, IsRun, words_of};
 ghost use Rattle.psi_top.specs.declared.command.Task.{Task as AnyTask};
 
 /// The greatest number of bytes in the name of a file.
@@ -17,11 +18,13 @@ pub(crate) enum Task {
     Compile,
 }
 
-/// A task with the name of a file.
+/// What the words ask for, with the names of the files that it is done with.
 #[derive(Clone, Copy)]
-pub(crate) struct Command<'a> {
-    pub(crate) task: Task,
-    pub(crate) name: &'a str,
+pub(crate) enum Command<'a> {
+    /// A task is done with a source.
+    OnSource { task: Task, name: &'a str },
+    /// An assembly text is run on arrays.
+    Run { assembly: &'a str, arrays: &'a str },
 }
 
 fn is_check(word: &str) -> bool
@@ -58,18 +61,56 @@ fn task_of(words: &[String]) -> Option<Task>
     }
 }
 
-/// The command that the words ask for, where they ask for one.
-pub(crate) fn command_of(words: &[String]) -> Option<Command<'_>>
-    ensures { MatchOption result (IsMisuse (map string_bytes words.now))
-        (λ command. IsCommand (map string_bytes words.now) command.task command.name.now) }
+fn is_run(word: &str) -> bool
+    ensures { IsTrue result ↔ (word.now ≡ codes "run") }
 {
-    let (name, front) = words.split_last()?;
-    let task = task_of(front)?;
+    word == "run"
+}
+
+/// The name of a file, where it is not too long.
+fn short(name: &String) -> Option<&str>
+    ensures { MatchOption result (4096 < length (string_bytes name.now))
+        (λ short. (short.now ≡ string_bytes name.now) × (length short.now ≤ 4096)) }
+{
     if name.len() > LONGEST_NAME {
         return None;
     }
-    Some(Command {
-        task,
-        name: name.as_str(),
-    })
+    Some(name.as_str())
+}
+
+/// The task on a source that the words ask for, where they ask for one.
+fn source_asked(words: &[String]) -> Option<Command<'_>>
+    ensures { MatchOption result ((task : AnyTask) (name : List ℕ) → IsCommand (map string_bytes words.now) task name → ⊥)
+        (λ command. IsAsked (map string_bytes words.now) command) }
+{
+    let (name, front) = words.split_last()?;
+    let task = task_of(front)?;
+    let name = short(name)?;
+    Some(Command::OnSource { task, name })
+}
+
+/// The run that the words ask for, where they ask for one.
+fn run_asked(words: &[String]) -> Option<Command<'_>>
+    ensures { MatchOption result ((assembly arrays : List ℕ) → IsRun (map string_bytes words.now) assembly arrays → ⊥)
+        (λ command. IsAsked (map string_bytes words.now) command) }
+{
+    match words {
+        [word, assembly, arrays] if is_run(word.as_str()) => {
+            let assembly = short(assembly)?;
+            let arrays = short(arrays)?;
+            Some(Command::Run { assembly, arrays })
+        }
+        _ => None,
+    }
+}
+
+/// The command that the words ask for, where they ask for one.
+pub(crate) fn command_of(words: &[String]) -> Option<Command<'_>>
+    ensures { MatchOption result (IsMisuse (map string_bytes words.now))
+        (λ command. IsAsked (map string_bytes words.now) command) }
+{
+    match source_asked(words) {
+        Some(command) => Some(command),
+        None => run_asked(words),
+    }
 }

@@ -2,10 +2,14 @@
 #![tactic(auto)]
 
 mod command;
+mod execute;
+mod fetch;
 mod laws;
+mod line;
 mod program;
 mod refusal;
 mod report;
+mod run_failure;
 mod start;
 #[cfg(test)]
 mod tests;

@@ -1,27 +1,36 @@
 // The commands of the program.
-ghost use Rattle.std.specs.Prelude.{◌≡◌, ◌≢◌, ℕ, ◌+◌, ◌≤◌, ◌⊎◌, List, [], ◌∷◌, length, map, IfErr, IfOk, IsSomeAnd, string_bytes, Contains};
+ghost use Rattle.std.specs.Prelude.{◌≡◌, ◌≢◌, ℕ, ℤ, ◌+◌, ◌≤◌, ◌⊎◌, List, [], ◌∷◌, length, map, IfErr, IfOk, IsSomeAnd, string_bytes, Contains};
+ghost use Rattle.moa_tree.specs.Expr.{Tree};
 ghost use Rattle.moa_tree.specs.Pools.{tree_of};
 ghost use Rattle.moa_tree.specs.Readings.{Reads};
+ghost use Rattle.shape_check.specs.Layout.{areas};
+ghost use Rattle.array_text.specs.Outcome.{Accepted, outcome_of};
+ghost use Rattle.array_run.specs.Ran.{printed_all};
+ghost use Rattle.array_run.specs.Starts.{inputs, outputs};
+ghost use Rattle.psi_compile.specs.Compiled.{IsCompiled};
+ghost use Rattle.psi_compile.specs.Demands.{denoted};
 ghost use Rattle.psi_compile.specs.Errors.{IsCause};
 ghost use Rattle.psi_edges.specs.Causes.{Rose};
-ghost use Rattle.psi_edges.specs.Files.{OnFile};
+ghost use Rattle.psi_edges.specs.Files.{OnFile, TellsFile};
 ghost use Rattle.psi_edges.specs.Held.{Appends};
 ghost use Rattle.psi_top.specs.Answer.{IsAnswer, IsPublished};
-ghost use Rattle.psi_top.specs.Command.{IsCommand, IsMisuse};
-ghost use Rattle.psi_top.specs.Made.{IsCauseFor, IsMade, IsUnbuilt};
+ghost use Rattle.psi_top.specs.Command.{IsCommand, IsMisuse, IsRun};
+ghost use Rattle.psi_top.specs.Made.{IsCauseFor, IsDone, IsMade, IsUnbuilt};
 ghost use Rattle.psi_top.specs.Outcome.{IsDue, IsOutcome, IsTextOf, Outcome, line_of, most_read, status_of};
 ghost use Rattle.psi_top.specs.Put.{IsPut};
 ghost use Rattle.psi_top.specs.Views.{shelf_view, sink_view};
 ghost use Rattle.psi_top.specs.declared.command.Task.{Task as AnyTask};
 
 use crate::command::{Command, Task, command_of};
-use crate::laws::one_outcome;
+use crate::execute::run_of;
+use crate::fetch::fetch;
+use crate::laws::{one_outcome, texts_run};
 use crate::refusal::{CANNOT_WRITE_STATUS, Refusal, put_line, refuse};
 use crate::report::report_on;
 use moa_reader::{print, read};
 use psi_compile::laws::causes_are_kept;
 use psi_compile::{CompileError, compile};
-use psi_edges::{Fetch, Shelf, Sink, WriteFault, read_whole, write_whole};
+use psi_edges::{Shelf, Sink, WriteFault, write_whole};
 use shape_check::{Checked, check};
 use std::alloc::Global;
 
@@ -55,38 +64,34 @@ fn text_for(alloc: Global, task: Task, source: &[u8]) -> Result<Vec<u8>, Compile
     }
 }
 
-/// The text that a command makes of its file.
-fn answer_of<'a, F: Shelf>(
+/// The text that a task makes of the source of this name.
+fn source_answer<'a, F: Shelf>(
     alloc: Global,
-    command: Command<'a>,
+    task: Task,
+    name: &'a str,
     shelf: &mut F,
 ) -> Result<Vec<u8>, Refusal<'a>>
-    requires { length command.name.now ≤ 4096 }
-    ensures due { (words : List (List ℕ)) → IsCommand words command.entry.task command.entry.name.now
+    requires { length name.now ≤ 4096 }
+    ensures due { (words : List (List ℕ)) → IsCommand words task name.now
         → IsAnswer words (shelf_view F.Shelf shelf.old) (shelf_view F.Shelf shelf.new) result }
     ensures unchanged { F.files shelf.new ≡ F.files shelf.old }
     ensures later { F.faults shelf.old ≤ F.faults shelf.new }
     ensures more_given { F.given shelf.old ≤ F.given shelf.new }
-    ensures most_given { F.given shelf.new ≤ F.given shelf.old + most_read }
+    ensures most_given { F.given shelf.new ≤ F.given shelf.old + 1048577 }
 {
-    let name = command.name;
-    match read_whole(alloc, shelf, name, LONGEST_SOURCE) {
-        Err(Fetch::Fault) => Err(Refusal::CannotRead(name)),
-        Err(Fetch::TooLong) => Err(Refusal::TooLong(name)),
-        Err(Fetch::Memory) => Err(Refusal::Memory),
-        Ok(source) => match text_for(alloc, command.task, &source) {
-            Ok(text) => Ok(text),
-            Err(CompileError::Text { at, cause }) => Err(Refusal::Text { name, at, cause }),
-            Err(CompileError::Rule { at, rule }) => Err(Refusal::Rule { name, at, rule }),
-            Err(CompileError::Limit { at, which, value }) => Err(Refusal::Limit {
-                name,
-                at,
-                which,
-                value,
-            }),
-            Err(CompileError::NotBuilt { at }) => Err(Refusal::NotBuilt { name, at }),
-            Err(CompileError::Memory) => Err(Refusal::Memory),
-        },
+    let source = fetch(alloc, shelf, name, 1, LONGEST_SOURCE)?;
+    match text_for(alloc, task, &source) {
+        Ok(text) => Ok(text),
+        Err(CompileError::Text { at, cause }) => Err(Refusal::Text { name, at, cause }),
+        Err(CompileError::Rule { at, rule }) => Err(Refusal::Rule { name, at, rule }),
+        Err(CompileError::Limit { at, which, value }) => Err(Refusal::Limit {
+            name,
+            at,
+            which,
+            value,
+        }),
+        Err(CompileError::NotBuilt { at }) => Err(Refusal::NotBuilt { name, at }),
+        Err(CompileError::Memory) => Err(Refusal::Memory),
     }
 }
 
@@ -102,10 +107,13 @@ fn answer_to<'a, F: Shelf>(
     ensures later { F.faults shelf.old ≤ F.faults shelf.new }
     ensures more_given { F.given shelf.old ≤ F.given shelf.new }
     ensures most_given { F.given shelf.new ≤ F.given shelf.old + most_read }
+    ensures source_given { (task : AnyTask) (name : List ℕ) → IsCommand (map string_bytes words.now) task name
+        → F.given shelf.new ≤ F.given shelf.old + 1048577 }
 {
     match command_of(words) {
         None => Err(Refusal::Usage),
-        Some(command) => answer_of(alloc, command, shelf),
+        Some(Command::OnSource { task, name }) => source_answer(alloc, task, name, shelf),
+        Some(Command::Run { assembly, arrays }) => run_of(alloc, assembly, arrays, shelf),
     }
 }
 
@@ -147,13 +155,18 @@ fn publish<K: Sink, E: Sink>(
 /// | status | comes | line put to `err` |
 /// |---|---|---|
 /// | 0 | the whole text was put to `out` | none |
-/// | 1 | the words are not `check FILE`, `show source FILE` or `compile FILE`, with a name of at most 4096 bytes | `usage: psic check FILE \| show source FILE \| compile FILE` |
+/// | 1 | the words are not `check FILE`, `show source FILE`, `compile FILE` or `run ASM DATA`, with names of at most 4096 bytes | `usage: psic check FILE \| show source FILE \| compile FILE \| run ASM DATA` |
 /// | 2 | a read of the file failed | `psic: cannot read FILE` |
 /// | 3 | a put failed | `psic: cannot write`, where that was of `out` |
 /// | 4 | the file is no program | `FILE:LINE:COLUMN: text CAUSE: ` and the cause in words |
 /// | 5 | a shape rule is the first to fail in the program, for `check` and `show source` | `FILE:LINE:COLUMN: rule RULE: ` and the rule in words |
 /// | 6 | the file has more than 1048576 bytes | `FILE: limit 1: longer than 1048576 bytes` |
 /// | 6 | a limit is the first to fail in the program, for `check` and `show source` | `FILE:LINE:COLUMN: limit LIMIT: VALUE exceeds GREATEST`, without a place where it is one of the whole program |
+/// | 6 | the assembly text has more than 33554432 bytes, or the array file more than 268435456 | `ASM: limit 8: longer than 33554432 bytes`, `DATA: limit 9: longer than 268435456 bytes` |
+/// | 6 | the block of the assembly text has more than 4194304 words | `ASM: limit 10: VALUE exceeds 4194304` |
+/// | 7 | the array file does not hold the inputs of the assembly text | `DATA:LINE: data CAUSE: ` and the cause in words |
+/// | 8 | the file is no assembly text | `ASM:LINE: assembly CAUSE: ` and the cause in words |
+/// | 9 | the run stopped before its end | `ASM:LINE: stopped: access ADDRESS`, `ASM: stopped: off text ADDRESS`, `ASM:LINE: stopped: trap` or `ASM: stopped: budget STEPS` |
 /// | 10 | memory was wanted | `psic: no memory` |
 /// | 11 | the program is of no form that is built, for `compile` alone | `FILE:LINE:COLUMN: not built`, at its first name |
 ///
@@ -170,15 +183,20 @@ pub fn psi<F: Shelf, K: Sink, E: Sink>(
         × IsDue (map string_bytes words.now) (shelf_view F.Shelf shelf.old) (shelf_view F.Shelf shelf.new) outcome
         × IsPut outcome (sink_view K.Sink out.old) (sink_view K.Sink out.new)
         (sink_view E.Sink err.old) (sink_view E.Sink err.new) result }
-    // At 0 the text is what the task makes of the named file.
-    ensures made { result ≡ 0 → (task : AnyTask) × (name : List ℕ) × (text : List ℕ)
-        × IsCommand (map string_bytes words.now) task name
-        × OnFile (F.files shelf.old) name (λ source. IsMade task source text)
+    // At 0 the text is what the task makes of the named file, or what the run prints.
+    ensures made { result ≡ 0 → (text : List ℕ)
+        × IsDone (map string_bytes words.now) (F.files shelf.old) text
         × Appends (K.held out.old) (K.held out.new) text
         × (E.held err.new ≡ E.held err.old) }
+    // A run of what a source is compiled to prints what the source denotes, of the arrays that the file holds.
+    ensures denotes { (assembly arrays text : List ℕ) (tree : Tree) → IsRun (map string_bytes words.now) assembly arrays
+        → TellsFile (F.files shelf.old) assembly text → IsCompiled tree text
+        → (result ≢ 8) × (result ≢ 9) × (result ≡ 0 → OnFile (F.files shelf.old) arrays (λ file. (lists : List (List ℤ))
+        × (outcome_of (inputs (areas tree.statements)) file ≡ Accepted lists)
+        × Appends (K.held out.old) (K.held out.new) (printed_all (outputs (areas tree.statements)) (denoted tree lists)))) }
     // Where no call of the outside fails and there is memory, the status is that of the outcome.
     ensures complete { (outcome : Outcome) (read : ℕ)
-        → IsSomeAnd (F.files shelf.old) (λ files. IsOutcome (map string_bytes words.now) files outcome read)
+        → IsSomeAnd (F.files shelf.old) (λ files. IsOutcome (map string_bytes words.now) files files outcome read)
         → ¬ Rose (F.faults shelf.old) (F.faults shelf.new) ⊎ (status_of outcome ≡ 2)
         → ¬ Rose (K.faults out.old) (K.faults out.new) → ¬ Rose (E.faults err.old) (E.faults err.new)
         → (result ≡ status_of outcome) ⊎ (result ≡ 10) }
@@ -190,15 +208,18 @@ pub fn psi<F: Shelf, K: Sink, E: Sink>(
     ensures puts_counted { result ≢ 3
         → (K.faults out.new ≡ K.faults out.old) × (E.faults err.new ≡ E.faults err.old) }
     ensures reads_counted { result ≢ 2 → result ≢ 3 → result ≢ 10 → F.faults shelf.new ≡ F.faults shelf.old }
-    ensures statuses { Contains (0 ∷ 1 ∷ 2 ∷ 3 ∷ 4 ∷ 5 ∷ 6 ∷ 10 ∷ 11 ∷ []) result }
+    ensures statuses { Contains (0 ∷ 1 ∷ 2 ∷ 3 ∷ 4 ∷ 5 ∷ 6 ∷ 7 ∷ 8 ∷ 9 ∷ 10 ∷ 11 ∷ []) result }
     // What it leaves: the same files, counts that never fall, and at most so many bytes given.
     ensures unchanged { F.files shelf.new ≡ F.files shelf.old }
     ensures later { (F.faults shelf.old ≤ F.faults shelf.new)
         × (K.faults out.old ≤ K.faults out.new) × (E.faults err.old ≤ E.faults err.new) }
     ensures given { (F.given shelf.old ≤ F.given shelf.new)
         × (F.given shelf.new ≤ F.given shelf.old + most_read) }
+    ensures source_given { (task : AnyTask) (name : List ℕ) → IsCommand (map string_bytes words.now) task name
+        → F.given shelf.new ≤ F.given shelf.old + 1048577 }
 {
     one_outcome();
+    texts_run();
     let answer = answer_to(alloc, words, shelf);
     publish(alloc, out, err, answer)
 }

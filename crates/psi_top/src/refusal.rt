@@ -1,14 +1,14 @@
 // Why a command is refused, and how that is said.
-ghost use Rattle.std.specs.Fmt.{decimal};
 ghost use Rattle.std.specs.Prelude.{◌≡◌, ◌≤◌, ◌++◌, IfOk, OnOk, codes};
 ghost use Rattle.psi_top.specs.Answer.{IsSaid, outcome_of};
 ghost use Rattle.shape_check.specs.Rules.{greatest};
-ghost use Rattle.psi_top.specs.Line.{cause_words, place, place_or_whole, rule_words};
+ghost use Rattle.psi_top.specs.Line.{cause_words, counted, longer_line, place, place_or_whole, rule_words};
 ghost use Rattle.psi_top.specs.Outcome.{Outcome, line_of, status_of};
 ghost use Rattle.psi_top.specs.Put.{IsLinePut};
 ghost use Rattle.psi_top.specs.Views.{sink_view};
 
-use itoa::Buffer;
+use crate::line::{push_excess, push_number, push_reason};
+use crate::run_failure::RunFailure;
 use psi_edges::{Sink, WriteFault, write_whole};
 use shapes_core::NoMemory;
 use std::alloc::Global;
@@ -17,7 +17,7 @@ use text_tokens::Position;
 /// The status where a put failed.
 pub(crate) const CANNOT_WRITE_STATUS: u8 = 3;
 
-const USAGE: &[u8] = b"usage: psic check FILE | show source FILE | compile FILE\n";
+const USAGE: &[u8] = b"usage: psic check FILE | show source FILE | compile FILE | run ASM DATA\n";
 
 const NO_MEMORY: &[u8] = b"psic: no memory\n";
 
@@ -49,8 +49,12 @@ pub(crate) enum Refusal<'a> {
     Usage,
     /// A read of the file of this name failed.
     CannotRead(&'a str),
-    /// The file of this name is longer than a source may be.
-    TooLong(&'a str),
+    /// The file of this name has more bytes than this limit allows.
+    TooLong {
+        name: &'a str,
+        which: u8,
+        most: u64,
+    },
     /// The file of this name is no program, for this cause at this position.
     Text {
         name: &'a str,
@@ -74,6 +78,11 @@ pub(crate) enum Refusal<'a> {
     NotBuilt {
         name: &'a str,
         at: Position,
+    },
+    /// The file of this name, an assembly text or its arrays, is why there is no run, or none to its end.
+    Run {
+        name: &'a str,
+        failure: RunFailure,
     },
     /// Memory was wanted.
     Memory,
@@ -120,15 +129,6 @@ fn rule_words(rule: u8) -> &'static str
     }
 }
 
-/// Adds a number in decimal digits.
-fn push_number(line: &mut Vec<u8>, number: u64) -> Result<(), NoMemory>
-    ensures { OnOk result (line.new.items ≡ line.old.items ++ decimal number) }
-{
-    let mut buffer = Buffer::new();
-    line.extend_from_slice(buffer.format(number).as_bytes())?;
-    Ok(())
-}
-
 /// Adds a place of the file of this name.
 fn push_place(line: &mut Vec<u8>, name: &str, at: Position) -> Result<(), NoMemory>
     ensures { OnOk result (line.new.items ≡ line.old.items ++ place name.now at) }
@@ -139,32 +139,6 @@ fn push_place(line: &mut Vec<u8>, name: &str, at: Position) -> Result<(), NoMemo
     line.extend_from_slice(b":")?;
     push_number(line, u64::from(at.column))?;
     line.extend_from_slice(b": ")?;
-    Ok(())
-}
-
-/// Adds a cause with its words.
-fn push_cause(line: &mut Vec<u8>, cause: u8) -> Result<(), NoMemory>
-    ensures { OnOk result (line.new.items
-        ≡ line.old.items ++ codes "text " ++ decimal cause ++ codes ": " ++ cause_words cause ++ codes "\n") }
-{
-    line.extend_from_slice(b"text ")?;
-    push_number(line, u64::from(cause))?;
-    line.extend_from_slice(b": ")?;
-    line.extend_from_slice(cause_words(cause).as_bytes())?;
-    line.extend_from_slice(b"\n")?;
-    Ok(())
-}
-
-/// Adds a shape rule with its words.
-fn push_rule(line: &mut Vec<u8>, rule: u8) -> Result<(), NoMemory>
-    ensures { OnOk result (line.new.items
-        ≡ line.old.items ++ codes "rule " ++ decimal rule ++ codes ": " ++ rule_words rule ++ codes "\n") }
-{
-    line.extend_from_slice(b"rule ")?;
-    push_number(line, u64::from(rule))?;
-    line.extend_from_slice(b": ")?;
-    line.extend_from_slice(rule_words(rule).as_bytes())?;
-    line.extend_from_slice(b"\n")?;
     Ok(())
 }
 
@@ -193,19 +167,33 @@ fn greatest(which: u8) -> u64
     }
 }
 
-/// Adds a limit with the value that exceeds it.
-fn push_limit(line: &mut Vec<u8>, which: u8, value: u64) -> Result<(), NoMemory>
-    ensures { OnOk result (line.new.items ≡ line.old.items ++ codes "limit " ++ decimal which
-        ++ codes ": " ++ decimal value ++ codes " exceeds " ++ decimal (greatest which) ++ codes "\n") }
+/// Adds a name between two texts.
+fn push_named(line: &mut Vec<u8>, front: &str, name: &str, back: &str) -> Result<(), NoMemory>
+    ensures { OnOk result (line.new.items ≡ line.old.items ++ (front.now ++ name.now ++ back.now)) }
 {
-    line.extend_from_slice(b"limit ")?;
-    push_number(line, u64::from(which))?;
-    line.extend_from_slice(b": ")?;
-    push_number(line, value)?;
-    line.extend_from_slice(b" exceeds ")?;
-    push_number(line, greatest(which))?;
-    line.extend_from_slice(b"\n")?;
+    line.extend_from_slice(front.as_bytes())?;
+    line.extend_from_slice(name.as_bytes())?;
+    line.extend_from_slice(back.as_bytes())?;
     Ok(())
+}
+
+/// Adds a number between two texts.
+fn push_counted(line: &mut Vec<u8>, front: &str, number: u64, back: &str) -> Result<(), NoMemory>
+    ensures { OnOk result (line.new.items ≡ line.old.items ++ counted front.now number back.now) }
+{
+    line.extend_from_slice(front.as_bytes())?;
+    push_number(line, number)?;
+    line.extend_from_slice(back.as_bytes())?;
+    Ok(())
+}
+
+/// Adds that the file of this name has more bytes than a limit allows.
+fn push_longer(line: &mut Vec<u8>, name: &str, which: u8, most: u64) -> Result<(), NoMemory>
+    ensures { OnOk result (line.new.items ≡ line.old.items ++ longer_line name.now which most) }
+{
+    line.extend_from_slice(name.as_bytes())?;
+    push_counted(line, ": limit ", u64::from(which), ": ")?;
+    push_counted(line, "longer than ", most, " bytes\n")
 }
 
 impl Refusal<'_> {
@@ -217,7 +205,8 @@ impl Refusal<'_> {
             Refusal::CannotRead(_) => 2,
             Refusal::Text { .. } => 4,
             Refusal::Rule { .. } => 5,
-            Refusal::TooLong(_) | Refusal::Limit { .. } => 6,
+            Refusal::TooLong { .. } | Refusal::Limit { .. } => 6,
+            Refusal::Run { failure, .. } => failure.status(),
             Refusal::Memory => 10,
             Refusal::NotBuilt { .. } => 11,
         }
@@ -229,22 +218,15 @@ impl Refusal<'_> {
         let mut line = Vec::new(alloc);
         match self {
             Refusal::Usage => line.extend_from_slice(USAGE)?,
-            Refusal::CannotRead(name) => {
-                line.extend_from_slice(b"psic: cannot read ")?;
-                line.extend_from_slice(name.as_bytes())?;
-                line.extend_from_slice(b"\n")?;
-            }
-            Refusal::TooLong(name) => {
-                line.extend_from_slice(name.as_bytes())?;
-                line.extend_from_slice(b": limit 1: longer than 1048576 bytes\n")?;
-            }
+            Refusal::CannotRead(name) => push_named(&mut line, "psic: cannot read ", name, "\n")?,
+            Refusal::TooLong { name, which, most } => push_longer(&mut line, name, which, most)?,
             Refusal::Text { name, at, cause } => {
                 push_place(&mut line, name, at)?;
-                push_cause(&mut line, cause)?;
+                push_reason(&mut line, "text ", cause, cause_words(cause))?;
             }
             Refusal::Rule { name, at, rule } => {
                 push_place(&mut line, name, at)?;
-                push_rule(&mut line, rule)?;
+                push_reason(&mut line, "rule ", rule, rule_words(rule))?;
             }
             Refusal::Limit {
                 name,
@@ -253,12 +235,13 @@ impl Refusal<'_> {
                 value,
             } => {
                 push_place_or_whole(&mut line, name, at)?;
-                push_limit(&mut line, which, value)?;
+                push_excess(&mut line, which, value, greatest(which))?;
             }
             Refusal::NotBuilt { name, at } => {
                 push_place(&mut line, name, at)?;
                 line.extend_from_slice(b"not built\n")?;
             }
+            Refusal::Run { name, failure } => failure.push(&mut line, name)?,
             Refusal::Memory => line.extend_from_slice(NO_MEMORY)?,
         }
         Ok(line)

@@ -2,6 +2,7 @@
 use crate::psi;
 use psi_edges::{MemoryShelf, MemorySink};
 use std::alloc::Global;
+use std::process::Abort;
 use std::test::Fail;
 
 const TWO_VECTORS: &str = "psi 1\nin A 3\nin B 3\nout C = add A B\n";
@@ -33,7 +34,7 @@ psi_main:
     jalr x0, 0(x1)
 ";
 
-const USAGE: &str = "usage: psic check FILE | show source FILE | compile FILE\n";
+const USAGE: &str = "usage: psic check FILE | show source FILE | compile FILE | run ASM DATA\n";
 
 /// What a call answered and put.
 #[derive(Drop)]
@@ -87,44 +88,43 @@ fn compile(alloc: Global, source: &[u8]) -> Result<Answer, Fail> {
     over_source(alloc, "compile", "p.moa", source)
 }
 
-#[test]
-fn two_vectors_are_added_however_they_are_written(rt: HostRuntime) -> Result<(), Fail> {
-    for source in [
-        TWO_VECTORS,
-        "psi 1 # one\nin A 3 # two\nin B 3# three\nout C = add A B # four\n",
-        "psi 1\r\nin A 3\r\nin B 3\r\nout C = add A B\r\n",
-        "psi 01\nin A 003\nin B 3\nout C = (add ((A)) (B))\n",
-        "psi 1 in A 3 in B 3 out C = add\tA B",
-    ] {
-        let answer = compile(rt.alloc(), source.as_bytes())?;
+/// Each of these sources is compiled to this text.
+fn each_is_compiled(
+    rt: &impl Abort,
+    alloc: Global,
+    sources: &[&str],
+    text: &str,
+) -> Result<(), Fail> {
+    for source in sources {
+        let answer = compile(alloc, source.as_bytes())?;
         assert_eq!(rt; answer.status, 0, "{source}");
         assert_eq!(rt; answer.err.len(), 0, "{source}");
-        assert_eq!(rt; str::from_utf8(&answer.out)?, TWO_VECTORS_TEXT);
+        assert_eq!(rt; str::from_utf8(&answer.out)?, text);
     }
     Ok(())
 }
 
 #[test]
-fn other_programs_are_not_built_at_their_first_name(rt: HostRuntime) -> Result<(), Fail> {
-    for (source, place) in [
-        ("psi 1\nin A 3\nin B 4\nout C = add A B\n", "2:4"),
-        ("psi 1\nin A 3\nin B 3\nout C = sub A B\n", "2:4"),
-        ("psi 1\nin A 0\nin B 0\nout C = add A B\n", "2:4"),
-        ("psi 1\nin A -3\nin B -3\nout C = add A B\n", "2:4"),
-        (
-            "psi 1\nin A 16777217\nin B 16777217\nout C = add A B\n",
-            "2:4",
-        ),
-        ("psi 1\nin A 3 1\nin B 3 1\nout C = add A B\n", "2:4"),
-        ("psi 1\nin A 3\nin B 3\nout C = add B A\n", "2:4"),
-        ("psi 1\nin A 3\nin B 3\nout C = add A 3\n", "2:4"),
-        ("psi 1\nin A 3\nin A 3\nout C = add A A\n", "2:4"),
-        ("psi 1\nin A 3\nin B 3\nout A = add A B\n", "2:4"),
-        ("psi 1\nin A 3\nin B 3\nlet C = add A B\nout D = C\n", "2:4"),
-        ("psi 1 # none\n\n  out C = 7", "3:7"),
-    ] {
-        let answer = over_source(rt.alloc(), "compile", "n.moa", source.as_bytes())?;
-        let line = format!(in rt.alloc(); "n.moa:{place}: not built\n")?;
+fn two_vectors_are_added_however_they_are_written(rt: HostRuntime) -> Result<(), Fail> {
+    each_is_compiled(
+        &rt,
+        rt.alloc(),
+        &[
+            TWO_VECTORS,
+            "psi 1 # one\nin A 3 # two\nin B 3# three\nout C = add A B # four\n",
+            "psi 1\r\nin A 3\r\nin B 3\r\nout C = add A B\r\n",
+            "psi 01\nin A 003\nin B 3\nout C = (add ((A)) (B))\n",
+            "psi 1 in A 3 in B 3 out C = add\tA B",
+        ],
+        TWO_VECTORS_TEXT,
+    )
+}
+
+/// Each of these sources is not built, which is said of this place.
+fn each_is_not_built(rt: &impl Abort, alloc: Global, rows: &[(&str, &str)]) -> Result<(), Fail> {
+    for (source, place) in rows {
+        let answer = over_source(alloc, "compile", "n.moa", source.as_bytes())?;
+        let line = format!(in alloc; "n.moa:{place}: not built\n")?;
         assert_eq!(rt; answer.status, 11, "{source}");
         assert_eq!(rt; answer.out.len(), 0, "{source}");
         assert_eq!(rt; str::from_utf8(&answer.err)?, line.as_str());
@@ -133,20 +133,128 @@ fn other_programs_are_not_built_at_their_first_name(rt: HostRuntime) -> Result<(
 }
 
 #[test]
-fn the_least_and_the_greatest_extent_are_compiled(rt: HostRuntime) -> Result<(), Fail> {
-    for (source, rows) in [
-        (
-            "psi 1\nin A 1\nin B 1\nout C = add A B\n",
-            "# psi 1\n# steps 14\n# spill 0\n# in A 0 1\n# in B 1 1\n# out C 2 1\n",
-        ),
-        (
-            "psi 1\nin left 16777216\nin right_2 16777216\nout s = add left right_2\n",
-            "# psi 1\n# steps 134217735\n# spill 0\n# in left 0 16777216\n# in right_2 16777216 16777216\n# out s 33554432 16777216\n",
-        ),
-    ] {
-        let answer = compile(rt.alloc(), source.as_bytes())?;
+fn other_programs_are_not_built_at_their_first_name(rt: HostRuntime) -> Result<(), Fail> {
+    each_is_not_built(
+        &rt,
+        rt.alloc(),
+        &[
+            ("psi 1\nin A 3\nin B 4\nout C = add A B\n", "2:4"),
+            ("psi 1\nin A 3\nin B 3\nout C = sub A B\n", "2:4"),
+            ("psi 1\nin A 0\nin B 0\nout C = add A B\n", "2:4"),
+            ("psi 1\nin A -3\nin B -3\nout C = add A B\n", "2:4"),
+            (
+                "psi 1\nin A 16777217\nin B 16777217\nout C = add A B\n",
+                "2:4",
+            ),
+            ("psi 1\nin A 3 1\nin B 3 1\nout C = add A B\n", "2:4"),
+            ("psi 1\nin A 3\nin B 3\nout C = add B A\n", "2:4"),
+            ("psi 1\nin A 3\nin B 3\nout C = add A 3\n", "2:4"),
+            ("psi 1\nin A 3\nin A 3\nout C = add A A\n", "2:4"),
+            ("psi 1\nin A 3\nin B 3\nout A = add A B\n", "2:4"),
+            ("psi 1\nin A 3\nin B 3\nlet C = add A B\nout D = C\n", "2:4"),
+            ("psi 1 # none\n\n  out C = 7", "3:7"),
+        ],
+    )
+}
+
+/// Each of these sources is compiled to a text that begins with these rows.
+fn each_has_rows(rt: &impl Abort, alloc: Global, pairs: &[(&str, &str)]) -> Result<(), Fail> {
+    for (source, rows) in pairs {
+        let answer = compile(alloc, source.as_bytes())?;
         assert_eq!(rt; answer.status, 0, "{source}");
         assert!(rt; answer.out.starts_with(rows.as_bytes()), "{source}");
+    }
+    Ok(())
+}
+
+#[test]
+fn the_least_and_the_greatest_extent_are_compiled(rt: HostRuntime) -> Result<(), Fail> {
+    each_has_rows(
+        &rt,
+        rt.alloc(),
+        &[
+            (
+                "psi 1\nin A 1\nin B 1\nout C = add A B\n",
+                "# psi 1\n# steps 14\n# spill 0\n# in A 0 1\n# in B 1 1\n# out C 2 1\n",
+            ),
+            (
+                "psi 1\nin left 16777216\nin right_2 16777216\nout s = add left right_2\n",
+                "# psi 1\n# steps 134217735\n# spill 0\n# in left 0 16777216\n# in right_2 16777216 16777216\n# out s 33554432 16777216\n",
+            ),
+        ],
+    )
+}
+
+/// Runs an assembly text on an array file.
+fn run(alloc: Global, text: &str, arrays: &str) -> Result<Answer, Fail> {
+    let mut shelf = MemoryShelf::new(alloc);
+    shelf.add("p.s", text.as_bytes())?;
+    shelf.add("p.data", arrays.as_bytes())?;
+    let mut out = MemorySink::new(alloc, 8192, 8192)?;
+    call(alloc, "run p.s p.data", &mut shelf, &mut out)
+}
+
+#[test]
+fn the_sum_of_two_vectors_is_run(rt: HostRuntime) -> Result<(), Fail> {
+    let arrays = "array A 3\n1 -2 9223372036854775807\narray B 3\n10 20 1\n";
+    let answer = run(rt.alloc(), TWO_VECTORS_TEXT, arrays)?;
+    assert_eq!(rt; answer.status, 0);
+    assert_eq!(rt; answer.err.len(), 0);
+    assert_eq!(rt;
+        str::from_utf8(&answer.out)?,
+        "array C 3\n11 18 -9223372036854775808\n"
+    );
+    Ok(())
+}
+
+/// A run that is refused, or does not come to its end.
+#[derive(Clone, Copy)]
+struct Unrun<'a> {
+    text: &'a str,
+    arrays: &'a str,
+    status: u8,
+    line: &'a str,
+}
+
+fn is_not_run(rt: &impl Abort, alloc: Global, row: &Unrun<'_>) -> Result<(), Fail> {
+    let answer = run(alloc, row.text, row.arrays)?;
+    assert_eq!(rt; answer.status, row.status);
+    assert_eq!(rt; answer.out.len(), 0);
+    assert_eq!(rt; str::from_utf8(&answer.err)?, row.line);
+    Ok(())
+}
+
+#[test]
+fn runs_are_refused_by_their_text_their_block_and_their_arrays_or_stop(
+    rt: HostRuntime,
+) -> Result<(), Fail> {
+    for row in [
+        Unrun {
+            text: "# psi 1\n# steps 9\n",
+            arrays: "7",
+            status: 8,
+            line: "p.s:3: assembly 3: the spill is wanted\n",
+        },
+        Unrun {
+            text: "# psi 1\n# steps 9\n# spill 4194304\n# out A 4194304\n",
+            arrays: "7",
+            status: 6,
+            line: "p.s: limit 10: 4194305 exceeds 4194304\n",
+        },
+        Unrun {
+            text: TWO_VECTORS_TEXT,
+            arrays: "array A 3\n1 2 3\n",
+            status: 7,
+            line: "p.data:3: data 9: an input is missing\n",
+        },
+        Unrun {
+            text: "# psi 1\n# steps 9\n# spill 0\necall\n",
+            arrays: "",
+            status: 9,
+            line: "p.s:4: stopped: trap\n",
+        },
+    ] {
+        is_not_run(&rt, rt.alloc(), &row)?;
     }
     Ok(())
 }
@@ -158,32 +266,45 @@ fn call_without_files(alloc: Global, line: &str) -> Result<Answer, Fail> {
     call(alloc, line, &mut shelf, &mut out)
 }
 
-#[test]
-fn words_that_are_no_command_get_the_usage_line(rt: HostRuntime) -> Result<(), Fail> {
-    let long = vec![in rt.alloc(); b'n'; 4097]?;
-    let long = str::from_utf8(&long)?;
-    let long = format!(in rt.alloc(); "compile {long}")?;
-    for line in [
-        "",
-        "demo -1",
-        "show tree p.moa",
-        "show source",
-        "check",
-        "check p.moa q.moa",
-        "show p.moa",
-        "source p.moa",
-        "show source p.moa q.moa",
-        "compile",
-        "compile p.moa q.moa",
-        "Compile p.moa",
-        long.as_str(),
-    ] {
-        let answer = call_without_files(rt.alloc(), line)?;
+/// Each of these lines of words gets the usage line.
+fn each_is_misuse(rt: &impl Abort, alloc: Global, lines: &[&str]) -> Result<(), Fail> {
+    for line in lines {
+        let answer = call_without_files(alloc, line)?;
         assert_eq!(rt; answer.status, 1, "{line}");
         assert_eq!(rt; answer.out.len(), 0);
         assert_eq!(rt; answer.err.as_slice(), USAGE.as_bytes());
     }
     Ok(())
+}
+
+#[test]
+fn words_that_are_no_command_get_the_usage_line(rt: HostRuntime) -> Result<(), Fail> {
+    let long = vec![in rt.alloc(); b'n'; 4097]?;
+    let long = str::from_utf8(&long)?;
+    let source = format!(in rt.alloc(); "compile {long}")?;
+    let arrays = format!(in rt.alloc(); "run p.s {long}")?;
+    each_is_misuse(
+        &rt,
+        rt.alloc(),
+        &[
+            "",
+            "demo -1",
+            "show tree p.moa",
+            "show source",
+            "check",
+            "check p.moa q.moa",
+            "show p.moa",
+            "source p.moa",
+            "show source p.moa q.moa",
+            "compile",
+            "compile p.moa q.moa",
+            "Compile p.moa",
+            "run p.s",
+            "run p.s p.data q.data",
+            source.as_str(),
+            arrays.as_str(),
+        ],
+    )
 }
 
 #[test]

@@ -2,6 +2,7 @@ pub mod CutLemmas
 pub mod DigitLemmas
 pub mod FitLemmas
 pub mod KindLemmas
+pub mod NumberLemmas
 pub mod PrintLemmas
 pub mod RiseLemmas
 pub mod SeparatorLemmas

@@ -1,6 +1,6 @@
 -- What is printed of a name or a number is its one token.
-use Rattle.std.proofs.Common.{refl, ◌≡◌, ℕ, suc, ◌^◌, ◌<◌, Bool, true, false, List, [], ◌∷◌, ◌++◌, length, take, drop, sym, ap, ◌∙◌, w64, arith}
-use Rattle.std.specs.Prelude.{◌==◌, ◌&&◌, FitsSigned, ℤ, pos, negsuc, neg_ℤ}
+use Rattle.std.proofs.Common.{refl, ◌≡◌, ℕ, suc, ◌^◌, ◌<◌, true, false, List, [], ◌∷◌, ◌++◌, length, take, drop, sym, ap, ◌∙◌, w64, arith}
+use Rattle.std.specs.Prelude.{◌&&◌, FitsSigned, ℤ, pos, negsuc, neg_ℤ}
 use Rattle.std.specs.Fmt.{decimal, signed_decimal}
 use Rattle.std.specs.List.{list_all, prefix_len}
 use Rattle.std.specs.Str.Parse.{AllDigits, digits_value}
@@ -8,14 +8,15 @@ use Rattle.std.proofs.lemmas.Bool.Decides.{nat_tests}
 use Rattle.std.proofs.lemmas.Fmt.{decimal_is_IsNumeral}
 use Rattle.std.proofs.lemmas.List.{append-nil, drop_at, take_at}
 use Rattle.std.proofs.lemmas.Str.Parse.{digit_from_value}
-use Rattle.shapes_core.specs.Name.{IsName, is_digit, is_letter, is_name, is_name_byte}
+use Rattle.shapes_core.specs.Name.{IsName, is_digit, is_letter, is_name_byte}
 use Rattle.text_tokens.specs.declared.token.Position.{Position}
 use Rattle.text_tokens.specs.declared.token.Token.TheVariants.{Word, Number, End}
 use Rattle.text_tokens.specs.Bytes.{is_run_byte}
-use Rattle.text_tokens.specs.Runs.{is_in_range, is_numeral, is_word, number_value, token_of_run, unsigned_part}
+use Rattle.text_tokens.specs.Runs.{is_in_range, token_of_number, token_of_run}
 use Rattle.text_tokens.specs.Separators.{begins_in_run}
 use Rattle.text_tokens.specs.Tokens.{along, tokens}
 use Rattle.text_tokens.proofs.CutLemmas.{prefix_none, prefix_reaches}
+use Rattle.text_tokens.proofs.NumberLemmas.{all_wider, digit_in_run, token_of_digits, token_of_minus}
 use Rattle.text_tokens.proofs.TestLemmas.{both}
 use Rattle.text_tokens.proofs.TokenLemmas.{prefix_all, tokens_run}
 
@@ -31,18 +32,8 @@ one_run position (first ∷ others) rest h all ends =
     ∙ ap (λ list. (token_of_run list, position) ∷ tokens (along position (length run)) (drop (length run) (run ++ rest))) (take_at run rest (length run) refl)
     ∙ ap (λ list. (token_of_run run, position) ∷ tokens (along position (length run)) list) (drop_at run rest (length run) refl)
 
--- bytes that pass a test pass a wider one
-all_wider : (test wider : ℕ → Bool) → ((byte : ℕ) → test byte ≡ true → wider byte ≡ true) → (list : List ℕ) → list_all test list ≡ true → list_all wider list ≡ true
-all_wider test wider more [] h = refl
-all_wider test wider more (first ∷ others) h =
-    let parts = both (test first) (list_all test others) h in
-    rw (more first parts.0) (all_wider test wider more others parts.1)
-
 name_byte_in_run : (byte : ℕ) → is_name_byte byte ≡ true → is_run_byte byte ≡ true
 name_byte_in_run byte h = rw h refl
-
-digit_in_run : (byte : ℕ) → is_digit byte ≡ true → is_run_byte byte ≡ true
-digit_in_run byte h = grind (arith, nat_tests)
 
 letter_in_run : (byte : ℕ) → is_letter byte ≡ true → is_run_byte byte ≡ true
 letter_in_run byte h = rw h refl
@@ -68,31 +59,20 @@ all_digits (first ∷ others) h =
     let digit : is_digit first ≡ true = grind (arith, nat_tests) in
     rw digit (all_digits others h.1)
 
-numeral : (list : List ℕ) → 0 < length list → list_all is_digit list ≡ true → is_numeral list ≡ true
-numeral [] h all = absurd (omega arith)
-numeral (first ∷ others) h all = all
-
--- digits are no word and have no sign
-digits_plain : (first : ℕ) → is_digit first ≡ true → (is_letter first ≡ false) × ((first == 45) ≡ false)
-digits_plain first h = grind (arith, nat_tests)
-
 in_range : (n : ℕ) → n < 2 ^ 63 → (is_in_range (pos n) ≡ true) × (is_in_range (negsuc n) ≡ true)
 in_range n h = grind (arith, nat_tests)
 
-number_token : (run : List ℕ) (value : ℤ) → is_name run ≡ false → is_word run ≡ false → is_numeral (unsigned_part run) ≡ true → number_value run ≡ value → is_in_range value ≡ true → token_of_run run ≡ Number value
-number_token run value no_name no_word digits is fits = rw (no_name, no_word, digits, is, fits) refl
-
 -- digits are their number
-token_of_digits : (list : List ℕ) (n : ℕ) → 0 < length list → list_all is_digit list ≡ true → digits_value 10 list ≡ n → n < 2 ^ 63 → token_of_run list ≡ Number (pos n)
-token_of_digits [] n h all value fits = absurd (omega arith)
-token_of_digits (first ∷ others) n h all value fits =
-    let plain = digits_plain first (both (is_digit first) (list_all is_digit others) all).0 in
-    number_token (first ∷ others) (pos n) (rw plain.0 refl) (rw plain.0 refl) (rw plain.1 all) (rw plain.1 (ap pos value)) (in_range n fits).0
+number_of_digits : (list : List ℕ) (n : ℕ) → 0 < length list → list_all is_digit list ≡ true → digits_value 10 list ≡ n → n < 2 ^ 63
+    → token_of_run list ≡ Number (pos n)
+number_of_digits list n h all value fits =
+    token_of_digits list h all ∙ ap (λ m. token_of_number (pos m)) value ∙ rw (in_range n fits).0 refl
 
 -- `-` and digits are the negative of their number
-token_of_minus : (list : List ℕ) (n : ℕ) → 0 < length list → list_all is_digit list ≡ true → digits_value 10 list ≡ suc n → n < 2 ^ 63 → token_of_run (45 ∷ list) ≡ Number (negsuc n)
-token_of_minus list n h all value fits =
-    number_token (45 ∷ list) (negsuc n) refl refl (numeral list h all) (ap (λ m. neg_ℤ (pos m)) value) (in_range n fits).1
+number_of_minus : (list : List ℕ) (n : ℕ) → 0 < length list → list_all is_digit list ≡ true → digits_value 10 list ≡ suc n → n < 2 ^ 63
+    → token_of_run (45 ∷ list) ≡ Number (negsuc n)
+number_of_minus list n h all value fits =
+    token_of_minus list h all ∙ ap (λ m. token_of_number (neg_ℤ (pos m))) value ∙ rw (in_range n fits).1 refl
 
 -- a number as it is printed is one number
 pub tokens_number : (position : Position) (z : ℤ) (rest : List ℕ) → FitsSigned w64 z → begins_in_run rest ≡ false → tokens position (signed_decimal z ++ rest) ≡ (Number z, position) ∷ tokens (along position (length (signed_decimal z))) rest
@@ -101,13 +81,13 @@ tokens_number position (pos n) rest h ends =
     let written = decimal_is_IsNumeral n (omega arith) in
     let digits = all_digits (decimal n) written.0.1 in
     one_run position (decimal n) rest written.0.0 (all_wider is_digit is_run_byte digit_in_run (decimal n) digits) ends
-    ∙ ap (λ t. (t, position) ∷ tokens (along position (length (decimal n))) rest) (token_of_digits (decimal n) n written.0.0 digits written.1 fits)
+    ∙ ap (λ t. (t, position) ∷ tokens (along position (length (decimal n))) rest) (number_of_digits (decimal n) n written.0.0 digits written.1 fits)
 tokens_number position (negsuc n) rest h ends =
     let fits : n < 2 ^ 63 = h.sfits in
     let written = decimal_is_IsNumeral (suc n) (omega arith) in
     let digits = all_digits (decimal (suc n)) written.0.1 in
     one_run position (45 ∷ decimal (suc n)) rest (omega arith) (all_wider is_digit is_run_byte digit_in_run (decimal (suc n)) digits) ends
-    ∙ ap (λ t. (t, position) ∷ tokens (along position (length (45 ∷ decimal (suc n)))) rest) (token_of_minus (decimal (suc n)) n written.0.0 digits written.1 fits)
+    ∙ ap (λ t. (t, position) ∷ tokens (along position (length (45 ∷ decimal (suc n)))) rest) (number_of_minus (decimal (suc n)) n written.0.0 digits written.1 fits)
 
 -- the same of a name and of a number with nothing after it
 pub tokens_name_alone : (position : Position) (name : List ℕ) → IsName name → tokens position name ≡ (Word name, position) ∷ (End, along position (length name)) ∷ []

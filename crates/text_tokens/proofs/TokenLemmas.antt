@@ -56,7 +56,7 @@ tokens_cons position first others =
 line_len_cons : (others : List ℕ) → prefix_len is_within_line (35 ∷ others) ≡ suc (prefix_len is_within_line others)
 line_len_cons others = omega arith
 
-run_len_cons : (first : ℕ) (others : List ℕ) → is_run_byte first ≡ true → prefix_len is_run_byte (first ∷ others) ≡ suc (prefix_len is_run_byte others)
+pub run_len_cons : (first : ℕ) (others : List ℕ) → is_run_byte first ≡ true → prefix_len is_run_byte (first ∷ others) ≡ suc (prefix_len is_run_byte others)
 run_len_cons first others run = rw run (omega arith)
 
 -- a comment is passed over

@@ -1,11 +1,14 @@
 -- What a longest run of letters, digits, `_` and `-` is, taken as a whole. This project's own.
-use Rattle.std.specs.Prelude.{ℕ, ◌^◌, Bool, false, ◌&&◌, List, [], ◌∷◌, drop, ℤ, pos, negsuc, neg_ℤ, nat_lt, FitsSigned, if◌then◌else◌}
+use Rattle.std.specs.Prelude.{ℕ, ◌^◌, Bool, false, ◌&&◌, List, [], ◌∷◌, drop, ℤ, pos, negsuc, neg_ℤ, nat_lt, FitsSigned, Some, None}
+use Rattle.std.specs.Prelude.{option_map, if◌then◌else◌}
+use Rattle.std.specs.declared.option.Option.{Option}
 use Rattle.std.specs.Int.{w64}
-use Rattle.std.specs.List.{list_all}
+use Rattle.std.specs.List.{list_all, prefix_len, take_while}
 use Rattle.std.specs.Str.Parse.{starts_with_minus, digits_value}
 use Rattle.shapes_core.specs.Name.{IsName, is_digit, is_letter, is_name, is_name_byte}
 use Rattle.text_tokens.specs.declared.token.Token.{Token}
 use Rattle.text_tokens.specs.declared.token.Token.TheVariants.{Word, LongWord, Number, OutOfRange, Malformed}
+use Rattle.text_tokens.specs.Bytes.{is_run_byte}
 
 -- a run that begins with a letter and has no `-`
 abbrev pub is_word : List ℕ → Bool
@@ -45,6 +48,16 @@ token_of_run run =
     else (if is_word run then LongWord
     else (if is_numeral (unsigned_part run) then token_of_number (number_value run)
     else Malformed))
+
+-- the number that a token is, if it is one
+abbrev pub number_of : Token → Option ℤ
+number_of (Number value) = Some value
+number_of _ = None
+
+-- the number that the longest run in front is, if it is one, and how long that run is
+abbrev pub number_in_front : List ℕ → Option (ℤ × ℕ)
+number_in_front bytes =
+    option_map (λ value. (value, prefix_len is_run_byte bytes)) (number_of (token_of_run (take_while is_run_byte bytes)))
 
 -- a word is a name, and a number has 64 bits
 abbrev pub IsFit : Token → Type 0

@@ -1,11 +1,12 @@
 -- The tokens of a text with their positions. This project's own.
-use Rattle.std.specs.Prelude.{◌≡◌, ℕ, zero, suc, ◌+◌, ◌⊎◌, ◌<◌, ◌≤◌, List, [], ◌∷◌, ◌++◌, map, length, ◌==◌, if◌then◌else◌}
+use Rattle.std.specs.Prelude.{◌≡◌, ℕ, zero, suc, ◌+◌, ◌⊎◌, ◌<◌, ◌≤◌, ℤ, List, [], ◌∷◌, ◌++◌, map, length, ◌==◌, IfSome, None, if◌then◌else◌}
+use Rattle.std.specs.declared.option.Option.{Option}
 use Rattle.std.specs.List.{fold, prefix_len, take_while}
 use Rattle.text_tokens.specs.declared.token.Position.{Position}
 use Rattle.text_tokens.specs.declared.token.Token.{Token}
-use Rattle.text_tokens.specs.declared.token.Token.TheVariants.{End}
+use Rattle.text_tokens.specs.declared.token.Token.TheVariants.{End, Number}
 use Rattle.text_tokens.specs.Bytes.{is_run_byte, is_separator, is_within_line, token_of_byte}
-use Rattle.text_tokens.specs.Runs.{token_of_run}
+use Rattle.text_tokens.specs.Runs.{number_of, token_of_run}
 
 -- where a text begins
 abbrev pub start : Position
@@ -74,6 +75,11 @@ pub record Remaining : Type 0 where
 abbrev pub remaining_tokens : Remaining → List (Token × Position)
 remaining_tokens left = tokens left.position left.bytes
 
+-- the number that stands first among tokens, if a number does
+abbrev pub first_number : List (Token × Position) → Option ℤ
+first_number [] = None
+first_number (first ∷ others) = number_of first.0
+
 -- the tokens that follow one that was given: none follows the end
 abbrev pub following : Token → Remaining → List (Token × Position)
 following End left = []
@@ -91,3 +97,10 @@ pub record GivesNext (old : Remaining) (given : Token × Position) (new : Remain
   -- after the end it gives the end again
   pub again : given.0 ≡ End → remaining_tokens new ≡ given ∷ []
   pub takes : TakesBytes given.0 old new
+
+-- what a scanner does when it is asked for the next number
+pub record GivesNumber (old : Remaining) (given : Option (ℤ × Position)) (new : Remaining) : Type 0 where
+  -- it gives the next token where that is a number
+  pub taken : IfSome given (λ found. GivesNext old (Number found.0, found.1) new)
+  -- otherwise it gives nothing, and leaves all tokens
+  pub other : given ≡ None → (remaining_tokens new ≡ remaining_tokens old) × (first_number (remaining_tokens old) ≡ None)

@@ -25,7 +25,7 @@ pub(crate) fn is_letter(byte: u8) -> bool
     byte.is_ascii_alphabetic()
 }
 
-fn is_digit(byte: u8) -> bool
+pub(crate) fn is_digit(byte: u8) -> bool
     ensures { result ≡ is_digit byte }
 {
     byte.is_ascii_digit()

@@ -9,6 +9,7 @@ mod bytes;
 pub mod cut_examples;
 pub mod laws;
 mod looks;
+mod number;
 mod run;
 mod scanner;
 mod text;

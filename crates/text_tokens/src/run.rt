@@ -30,7 +30,7 @@ fn is_numeral<L: Ledger>(bytes: &Text<'_>, looks: &mut Looks<L>) -> bool
     !bytes.is_empty() && are_all(bytes, Kind::Digit, looks)
 }
 
-fn starts_with_minus<L: Ledger>(run: &Text<'_>, looks: &mut Looks<L>) -> bool
+pub(crate) fn starts_with_minus<L: Ledger>(run: &Text<'_>, looks: &mut Looks<L>) -> bool
     ensures value { result ≡ starts_with_minus run.now }
     ensures cost { looks.new ≤ looks.old + 1 }
 {
@@ -38,7 +38,7 @@ fn starts_with_minus<L: Ledger>(run: &Text<'_>, looks: &mut Looks<L>) -> bool
 }
 
 /// What a run is without the `-` with which it begins, if it does.
-fn unsigned_part<'a>(run: &Text<'a>, minus: bool) -> Text<'a>
+pub(crate) fn unsigned_part<'a>(run: &Text<'a>, minus: bool) -> Text<'a>
     requires { minus ≡ starts_with_minus run.now }
     ensures { result ≡ unsigned_part run.now }
 {
@@ -68,7 +68,7 @@ fn digits_value<L: Ledger>(digits: &Text<'_>, looks: &mut Looks<L>) -> Option<u6
 }
 
 /// The token of the number of this magnitude, with or without `-` in front.
-fn token_of_number(minus: bool, magnitude: u64) -> Token
+pub(crate) fn token_of_number(minus: bool, magnitude: u64) -> Token
     ensures { result ≡ token_of_number (signed minus magnitude) }
 {
     let value = i128::from(magnitude);

@@ -1,19 +1,24 @@
-// The scanner: it passes over what separates tokens, and then takes the run or the byte that stands first.
-ghost use Rattle.std.specs.Prelude.{◌≡◌, min, ◌+◌, ◌*◌, ◌<◌, ◌≤◌, ◌≢◌, false, ◌∷◌, length, take, drop, slice_index};
+// The scanner: it passes over what separates tokens, and then takes the run or the byte that stands
+// first.
+ghost use Rattle.std.specs.Prelude.{◌≡◌, min, ◌+◌, ◌*◌, ◌<◌, ◌≤◌, ◌≢◌, false, ◌∷◌, length, take};
+ghost use Rattle.std.specs.Prelude.{drop, slice_index, None};
 ghost use Rattle.std.specs.Bool.{OnTrue, OnFalse};
-ghost use Rattle.text_tokens.specs.Bytes.{is_separator};
-ghost use Rattle.text_tokens.specs.Tokens.{GivesNext, along, remaining_tokens, start};
+ghost use Rattle.std.specs.List.{prefix_len};
+ghost use Rattle.text_tokens.specs.Bytes.{is_run_byte, is_separator};
+ghost use Rattle.text_tokens.specs.Tokens.{GivesNext, GivesNumber, along, position_after};
+ghost use Rattle.text_tokens.specs.Tokens.{remaining_tokens, start};
 
 use crate::bytes::{Kind, front_len, is_run_byte, token_of_byte};
 use crate::looks::Looks;
+use crate::number::number_in_front;
 use crate::run::token_of_run;
 use crate::text::Text;
 use crate::token::{Position, Token};
 use std::marker::{Brand, Model};
 use std::sync::ledger::{Blank, Ledger};
 
-/// Gives the tokens of a text one after the other, and its end again and again. Contracts see the bytes
-/// that are left, and where the first of them stands.
+/// Gives the tokens of a text one after the other, and its end again and again. Contracts see the
+/// bytes that are left, and where the first of them stands.
 #[derive(Drop)]
 pub struct Scanner<'a> {
     rest: Text<'a>,
@@ -44,18 +49,26 @@ impl<'a> Scanner<'a> {
         }
     }
 
-    /// Passes over the line feed that stands first.
-    fn end_line(&mut self)
+    /// Passes over this byte, which stands first.
+    fn pass(&mut self, byte: u8)
         requires { 0 < length self.old.bytes }
         ensures { self.new ≡ record {
-          position = record { line = self.old.position.line + 1; column = 1 };
+          position = position_after self.old.position byte;
           bytes = drop 1 self.old.bytes;
         } }
     {
+        let Position { line, column } = self.position;
         self.rest = self.rest.behind(1);
-        self.position = Position {
-            line: self.position.line + 1,
-            column: 1,
+        self.position = if byte == b'\n' {
+            Position {
+                line: line + 1,
+                column: 1,
+            }
+        } else {
+            Position {
+                line,
+                column: column + 1,
+            }
         };
     }
 
@@ -89,11 +102,13 @@ impl<'a> Scanner<'a> {
         if self.rest.is_empty() {
             return false;
         }
-        match self.rest.at(0, looks) {
-            b'\n' => self.end_line(),
-            b' ' | b'\t' | b'\r' => {
-                self.advance(1);
-            }
+        let byte = self.rest.at(0, looks);
+        // No separator is greater, and what begins a word or a number is.
+        if byte > b'#' {
+            return false;
+        }
+        match byte {
+            b' ' | b'\t' | b'\r' | b'\n' => self.pass(byte),
             b'#' => {
                 let comment = front_len(&self.rest, Kind::WithinLine, looks);
                 self.advance(comment);
@@ -108,7 +123,8 @@ impl<'a> Scanner<'a> {
     fn take_token<L: Ledger>(&mut self, looks: &mut Looks<L>) -> Token
         requires there { 0 < length self.old.bytes }
         requires no_separator { is_separator (slice_index self.old.bytes 0) ≡ false }
-        ensures next { remaining_tokens self.old ≡ (result, self.old.position) ∷ remaining_tokens self.new }
+        ensures next { remaining_tokens self.old ≡ (result, self.old.position)
+            ∷ remaining_tokens self.new }
         ensures not_end { result ≢ Token.End }
         ensures shorter { length self.new.bytes < length self.old.bytes }
         ensures cost { looks.new + 9 * length self.new.bytes ≤ looks.old + 9 * length self.old.bytes }
@@ -123,20 +139,61 @@ impl<'a> Scanner<'a> {
         }
     }
 
-    /// What `next_token` gives, with a count of the bytes that it looks at: at most ten for each byte that a call
-    /// takes, so at most ten times the bytes of a text from its start to its end. Every look is counted, since the scanner has
-    /// its bytes by `Text` alone.
+    /// Passes over blanks, line ends and comments.
+    fn skip_separators<L: Ledger>(&mut self, looks: &mut Looks<L>)
+        ensures same { remaining_tokens self.new ≡ remaining_tokens self.old }
+        ensures no_longer { length self.new.bytes ≤ length self.old.bytes }
+        ensures first { 0 < length self.new.bytes → is_separator (slice_index self.new.bytes 0)
+            ≡ false }
+        ensures cost { looks.new + 3 * length self.new.bytes
+            ≤ looks.old + 3 * length self.old.bytes + min (length self.new.bytes) 1 }
+    {
+        while self.skip_separator(looks) {}
+    }
+
+    /// What `next_token` gives, with a count of the bytes that it looks at: at most ten for each
+    /// byte that a call takes, so at most ten times the bytes of a text from its start to its end.
+    /// Every look is counted, since the scanner has its bytes by `Text` alone.
     #[tactic(auto, using(crate::proofs::TokenLemmas::following_more, crate::proofs::TokenLemmas::takes_bytes))]
     pub fn next_counted<L: Ledger>(&mut self, looks: &mut Looks<L>) -> (Token, Position)
         ensures token { GivesNext self.old result self.new }
         ensures cost { looks.new + 10 * length self.new.bytes ≤ looks.old + 10 * length self.old.bytes }
     {
-        while self.skip_separator(looks) {}
+        self.skip_separators(looks);
         let position = self.position;
         if self.rest.is_empty() {
             return (Token::End, position);
         }
         (self.take_token(looks), position)
+    }
+
+    /// What `next_number` gives, with a count of the bytes that it looks at: at most ten for each
+    /// byte that a call takes and, where it gives nothing, for each byte of the run that it leaves,
+    /// and three more.
+    #[tactic(auto, using(crate::proofs::NumberLemmas::no_number))]
+    pub fn next_number_counted<L: Ledger>(
+        &mut self,
+        looks: &mut Looks<L>,
+    ) -> Option<(i64, Position)>
+        ensures number { GivesNumber self.old result self.new }
+        ensures cost { result ≢ None
+            → looks.new + 10 * length self.new.bytes ≤ looks.old + 10 * length self.old.bytes }
+        ensures other_cost { result ≡ None → looks.new + 10 * length self.new.bytes
+            ≤ looks.old + 10 * length self.old.bytes + 10 * prefix_len is_run_byte self.new.bytes + 3 }
+    {
+        self.skip_separators(looks);
+        let position = self.position;
+        let (number, len) = number_in_front(&self.rest, looks)?;
+        self.advance(len);
+        Some((number, position))
+    }
+
+    /// The number that comes next, where the next token is one in the range of `i64`, with the
+    /// position of its first byte; otherwise no token is taken.
+    pub fn next_number(&mut self) -> Option<(i64, Position)>
+        ensures { GivesNumber self.old result self.new }
+    {
+        number_uncounted::<Brand>(self, Blank::new(1))
     }
 
     /// The next token with the position of its first byte, and after the end the end again.
@@ -155,6 +212,16 @@ fn next_uncounted<L: Ledger>(scanner: &mut Scanner<'_>, blank: Blank) -> (Token,
 {
     let mut looks = Looks::<L>::new(blank);
     scanner.next_counted(&mut looks)
+}
+
+fn number_uncounted<L: Ledger>(scanner: &mut Scanner<'_>, blank: Blank) -> Option<(i64, Position)>
+    requires name { blank.name ≡ L.name }
+    requires parts { blank.parts ≡ L.parts }
+    requires some { 0 < blank.parts }
+    ensures { GivesNumber scanner.old result scanner.new }
+{
+    let mut looks = Looks::<L>::new(blank);
+    scanner.next_number_counted(&mut looks)
 }
 
 #[cfg(test)]
@@ -214,5 +281,28 @@ mod tests {
             scan(&rt, text.as_slice(), want, count, Position { line, column });
         }
         Ok(())
+    }
+
+    #[test]
+    fn numbers_are_taken_as_long_as_they_come(rt: HostRuntime) {
+        let mut scanner = Scanner::new(b"7 -0090\n\t# 8\n -9223372036854775808 12-".as_slice());
+        for (number, line, column) in [(7, 1, 1), (-90, 1, 3), (i64::MIN, 3, 2)] {
+            let Some((found, position)) = scanner.next_number() else {
+                assert!(rt; false, "{number} comes next");
+                return;
+            };
+            assert_eq!(rt; found, number);
+            assert_eq!(rt; position, Position { line, column });
+        }
+        assert!(rt; scanner.next_number().is_none(), "12- is no number");
+        let (token, position) = scanner.next_token();
+        assert_eq!(rt; kind(&token), "malformed");
+        assert_eq!(rt;
+            position,
+            Position {
+                line: 3,
+                column: 23
+            }
+        );
     }
 }

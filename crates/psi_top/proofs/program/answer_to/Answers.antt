@@ -1,4 +1,4 @@
-use Rattle.psi_top.proofs.OutcomeLemmas.{due_usage}
+use Rattle.psi_top.proofs.DueLemmas.{due_usage}
 use Rattle.psi_top.proofs.program.answer_to.Goals as goal
 
 pub returns-in-None-clause-due : goal.returns-in-None-clause-due

@@ -1,11 +1,16 @@
 use Rattle.psi_top.proofs.AnswerLemmas as lemmas
+use Rattle.psi_top.proofs.DenoteLemmas.{denotes}
 use Rattle.psi_top.proofs.program.psi.Goals as goal
 
 pub returns-clause-answered : goal.returns-clause-answered
 returns-clause-answered g c = lemmas.answered _ _ _ _ _ _ _ _ _ c.answer_to-answer.ensures.due c.publish.ensures.put
 
 pub returns-clause-made : goal.returns-clause-made
-returns-clause-made g c = lemmas.text_of_zero _ _ _ _ _ _ _ _ (returns-clause-answered g c)
+returns-clause-made g c = lemmas.text_of_zero _ _ _ _ _ _ _ _ (returns-clause-answered g c) c.texts_run.ensures.spelled
+
+pub returns-clause-denotes : goal.returns-clause-denotes
+returns-clause-denotes g c = λ assembly arrays text tree asked tells compiled.
+    denotes _ _ _ _ _ _ _ _ (returns-clause-answered g c) tree text assembly arrays (c.texts_run.ensures.faithful tree text compiled) asked tells
 
 pub returns-clause-complete : goal.returns-clause-complete
 returns-clause-complete g c = λ outcome read over calm out err.

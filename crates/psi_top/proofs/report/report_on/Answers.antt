@@ -1,4 +1,4 @@
-use Rattle.std.proofs.Common.{◌≡◌, ◌+◌, ◌++◌, ◌<◌, ◌≤◌, [], length, map, Some, slice_get, refl, sym, ap, ◌∙◌, arith}
+use Rattle.std.proofs.Common.{◌≡◌, ◌++◌, ◌<◌, ◌≤◌, [], length, Some, slice_get, refl, sym, ap, ◌∙◌, arith}
 use Rattle.std.specs.List.{flat_map, zip}
 use Rattle.std.specs.Option.{option_map}
 use Rattle.std.specs.Prelude.{slice_index_or}
@@ -7,7 +7,7 @@ use Rattle.std.proofs.lemmas.List.{length-map}
 use Rattle.moa_tree.specs.Pool.{item_of, trees}
 use Rattle.shape_check.specs.Judged.{items_in}
 use Rattle.shape_check.specs.Layout.{statement_shapes}
-use Rattle.psi_top.specs.Report.{costs_text, statement_line}
+use Rattle.psi_top.specs.Report.{statement_line}
 use Rattle.psi_top.proofs.ReportLemmas.{pair-more, pairs-all, statement_shapes-len}
 use Rattle.psi_top.proofs.report.report_on.Goals as goal
 

@@ -1,0 +1,9 @@
+pub mod AreaLemmas
+pub mod BlockLemmas
+pub mod GoodLemmas
+pub mod HaltLemmas
+pub mod HeldLemmas
+pub mod PrintLemmas
+pub mod ReadLemmas
+pub mod StartLemmas
+pub mod WordLemmas
