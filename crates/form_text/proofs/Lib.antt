@@ -1,0 +1,7 @@
+pub mod JoinLemmas
+pub mod NormalLemmas
+pub mod OperationalLemmas
+pub mod PoolLemmas
+pub mod StackLemmas
+pub mod StrideLemmas
+pub mod TestLemmas

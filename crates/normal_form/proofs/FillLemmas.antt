@@ -1,0 +1,19 @@
+use Rattle.std.proofs.Common.{◌≡◌, ℕ, ◌≤◌, List, ◌++◌, length, take, drop, replicate, ap, sym, ◌∙◌}
+use Rattle.std.proofs.lemmas.List.{take_at, drop-replicate}
+use Rattle.normal_form.specs.Fills.{IsFilled, filled}
+
+-- the front of an array that a list was copied to
+pub filled_front : {X : Type 0} (list copied rest : List X) → copied ≡ list → take (length list) (copied ++ rest) ≡ list
+filled_front list copied rest same = take_at copied rest (length list) (ap length same) ∙ same
+
+-- a list copied to the front of an array of one item
+pub fills : {X : Type 0} (other : X) (size : ℕ) (list copied : List X) → copied ≡ list → length list ≤ size → IsFilled other size (copied ++ drop (length list) (replicate size other)) (length list)
+fills other size list copied same within =
+    let rest = drop (length list) (replicate size other) in
+    let front = filled_front list copied rest same in
+    record {
+      within = within;
+      counted = ap length front;
+      fills = ap (filled other size) front ∙ ap (λ more. list ++ more) (sym (drop-replicate (length list) size other))
+          ∙ ap (λ l. l ++ rest) (sym same);
+    }

@@ -1,0 +1,53 @@
+-- What a fold over the items of an axis in front keeps.
+use Rattle.std.specs.Prelude.{ℕ, zero, suc, ◌<◌, ◌≤◌, pos, List, ◌∷◌, drop, slice_index_or}
+use Rattle.std.proofs.Common.{arith, le_refl}
+use Rattle.shapes_core.specs.Shape.{greatest_extent}
+use Rattle.moa_tree.specs.declared.operator.Op.{Op}
+use Rattle.normal_form.specs.declared.entry.Entry.{Entry}
+use Rattle.normal_form.specs.declared.entry.Entry.TheVariants.{At}
+use Rattle.normal_form.specs.Formers.{Making, folding}
+use Rattle.normal_form.specs.Keeps.{AreEarlier, AreWithin, Keeps}
+use Rattle.normal_form.specs.Kept.{IsFoldOperator, IsKept}
+use Rattle.normal_form.specs.Moves.{variable}
+use Rattle.normal_form.proofs.KeepLemmas.{earlier-fresh, earlier-next, entries-extend, extends-next, variable-within}
+
+-- what is made of each item keeps what an array with an axis of this extent in front does
+abbrev pub KeptItems : ℕ → ℕ → (List Entry → Entry → Making) → ℕ → List ℕ → Type 0
+KeptItems own room item n shape = Keeps own room (λ entries. item (drop 1 entries) (slice_index_or entries 0 (At (pos 0)))) (n ∷ shape)
+
+folding-rises : (own room : ℕ) (op : Op) (n : ℕ) (item : List Entry → Entry → Making) (shape : List ℕ) → KeptItems own room item n shape
+    → (entries : List Entry) (next : ℕ) → next ≤ (folding op n (item entries) next).1
+folding-rises own room op zero item shape h entries next = le_refl next
+folding-rises own room op (suc n) item shape h entries next = omega (arith, h.grows (variable next ∷ entries) (suc next))
+
+folding-keeps : (own room : ℕ) (op : Op) (n : ℕ) (item : List Entry → Entry → Making) (shape : List ℕ)
+    → IsFoldOperator op → n ≤ greatest_extent → KeptItems own room item n shape
+    → (known : List ℕ) (next : ℕ) (entries : List Entry) → AreEarlier next known → AreWithin room known entries shape
+    → IsKept own known (folding op n (item entries) next).0
+folding-keeps own room op zero item shape folds least h known next entries earlier within = tt
+folding-keeps own room op (suc n) item shape folds least h known next entries earlier within =
+    let some : 0 < suc n = omega arith in (
+      folds,
+      (
+        some,
+        (
+          least,
+          (
+            earlier-fresh next known earlier,
+            h.keeps (next ∷ known) (suc next) (variable next ∷ entries) (earlier-next next known earlier) (
+              variable-within room next known (suc n) some,
+              entries-extend room known (next ∷ known) entries shape
+                  (extends-next next known) within,
+            ),
+          ),
+        ),
+      ),
+    )
+
+pub fold-keeps : (own room : ℕ) (op : Op) (n : ℕ) (item : List Entry → Entry → Making) (shape : List ℕ)
+    → IsFoldOperator op → n ≤ greatest_extent → KeptItems own room item n shape
+    → Keeps own room (λ entries. folding op n (item entries)) shape
+fold-keeps own room op n item shape folds least h = record {
+  grows = folding-rises own room op n item shape h;
+  keeps = folding-keeps own room op n item shape folds least h;
+}

@@ -1,0 +1,14 @@
+pub mod FillLemmas
+pub mod FoldLemmas
+pub mod FreshLemmas
+pub mod GivesLemmas
+pub mod HandLemmas
+pub mod JoinLemmas
+pub mod KeepFoldLemmas
+pub mod KeepJoinLemmas
+pub mod KeepLemmas
+pub mod KeepReshapeLemmas
+pub mod KeepTurnLemmas
+pub mod OperatorLemmas
+pub mod ReshapeLemmas
+pub mod TurnLemmas

@@ -1,0 +1,10 @@
+pub mod Assignments
+pub mod Fills
+pub mod Formers
+pub mod Forms
+pub mod Moves
+pub mod Keeps
+pub mod Kept
+pub mod Meaning
+pub mod Pool
+pub mod Stands

@@ -1,0 +1,55 @@
+// Boxes of index vectors.
+ghost use Rattle.std.specs.Prelude.{◌≡◌, ◌↔◌, ◌≤◌, IsSome, IfSome, length};
+
+use std::marker::Model;
+
+/// The greatest number of pairs: one an axis.
+const MOST_PAIRS: usize = 6;
+
+/// A box of index vectors: at most 6 pairs, one an axis, each from a low place to below a high one.
+#[derive(Clone, Copy)]
+pub struct Region {
+    list: [(u64, u64); 6],
+    count: usize,
+}
+
+impl Model for Region {
+    ghost use Rattle.std.specs.Prelude.{ℕ, List, length, take};
+    ghost use Rattle.normal_form.specs.Fills.{IsFilled, filled};
+
+    ghost Value = { List (ℕ × ℕ) };
+
+    ghost view = { λ r. take r.count r.list };
+
+    ghost invariant = { λ r. IsFilled (0, 0) 6 r.list r.count };
+
+    ghost inverse = { λ list. record { list = filled (0, 0) 6 list; count = length list } };
+
+    ghost inverse_ok = { λ n h i. record { list = h.fills i; count = h.counted i } };
+}
+
+impl Region {
+    /// The box of these pairs, or `None` where they are more than 6.
+    pub fn new(list: &[(u64, u64)]) -> Option<Region>
+        ensures within { IsSome result ↔ length list.now ≤ 6 }
+        ensures same { IfSome result (λ region. region ≡ list.now) }
+    {
+        if list.len() > MOST_PAIRS {
+            return None;
+        }
+        let mut filled = [(0, 0); MOST_PAIRS];
+        filled[..list.len()].copy_from_slice(list);
+        Some(Region {
+            list: filled,
+            count: list.len(),
+        })
+    }
+
+    /// The pairs, one an axis.
+    pub fn list(&self) -> &[(u64, u64)]
+        ensures value { result.now ≡ self.now }
+        ensures few { length self.now ≤ 6 }
+    {
+        &self.list[..self.count]
+    }
+}

@@ -1,0 +1,12 @@
+mod AreaLemmas
+mod FormLemmas
+mod JobLemmas
+mod KeepFormLemmas
+mod KeepJobLemmas
+mod KeepTaskLemmas
+mod LawLemmas
+mod ListLemmas
+mod MoveLemmas
+mod TaskLemmas
+mod WithinLemmas
+mod ZipLemmas

@@ -1,0 +1,4 @@
+pub mod ConversionLemmas
+pub mod MeaningLemmas
+pub mod PlaceLemmas
+pub mod StrideLemmas

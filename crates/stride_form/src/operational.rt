@@ -1,0 +1,90 @@
+// The operational form of a job.
+ghost use Rattle.std.specs.Prelude.{◌≡◌, ◌<◌, ◌+◌, ◌↔◌, IsTrue, [], length, slice_get, Some};
+ghost use Rattle.stride_form.specs.Kept.{IsOpForm};
+
+use crate::op_term::OpTerm;
+use moa_tree::Job;
+use normal_form::Region;
+use shapes_core::Shape;
+use std::marker::Model;
+
+/// The values of one job on a region, a box of index vectors of its shape, as a term over stored arrays, whose elements it
+/// names by a start and strides. Variable j below the number of axes is entry j of the index vector. A job whose array has no
+/// element has the empty form, without a term.
+#[derive(Drop)]
+pub struct Operational {
+    job: Job,
+    shape: Shape,
+    region: Region,
+    terms: Vec<OpTerm>,
+}
+
+impl Model for Operational {
+    ghost use Rattle.stride_form.specs.Kept.{IsOpForm, OpParts};
+
+    ghost Value = { OpParts };
+
+    ghost view = { λ o. record { job = o.job; shape = o.shape; region = o.region; terms = o.terms.items } };
+
+    ghost invariant = { λ o. IsOpForm (record { job = o.job; shape = o.shape; region = o.region; terms = o.terms.items }) };
+}
+
+impl Operational {
+    /// The form of a job whose array has this shape, on a region; the last term is its top.
+    pub(crate) fn new(job: Job, shape: Shape, region: Region, terms: Vec<OpTerm>) -> Operational
+        requires { IsOpForm (record { job = job; shape = shape; region = region; terms = terms.items }) }
+        ensures { result ≡ record { job = job; shape = shape; region = region; terms = terms.items } }
+    {
+        Operational {
+            job,
+            shape,
+            region,
+            terms,
+        }
+    }
+
+    /// The job, by the number of its area, its node and the operator that it folds by.
+    pub fn job(&self) -> Job
+        ensures { result ≡ self.now.job }
+    {
+        self.job
+    }
+
+    /// The shape of the job's array.
+    pub fn shape(&self) -> Shape
+        ensures { result ≡ self.now.shape }
+    {
+        self.shape
+    }
+
+    /// The box of index vectors on which the form gives the job's values.
+    pub fn region(&self) -> Region
+        ensures { result ≡ self.now.region }
+    {
+        self.region
+    }
+
+    /// Whether the job's array has no element.
+    pub fn empty(&self) -> bool
+        ensures test { IsTrue result ↔ (self.now.terms ≡ []) }
+        ensures formed { IsOpForm self.now }
+    {
+        self.terms.is_empty()
+    }
+
+    /// The number of the term at the top, where the form is not empty.
+    pub fn top(&self) -> u32
+        requires { 0 < length self.now.terms }
+        ensures { 1 + result ≡ length self.now.terms }
+    {
+        (self.terms.len() - 1) as u32
+    }
+
+    /// A term by its number.
+    pub fn term(&self, number: u32) -> OpTerm
+        requires { number < length self.now.terms }
+        ensures { slice_get self.now.terms number ≡ Some result }
+    {
+        self.terms[number as usize]
+    }
+}
