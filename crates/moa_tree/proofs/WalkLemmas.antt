@@ -294,3 +294,12 @@ walk-expressions pools program =
     over pools.numbers pools.nodes program.ordered (node.Iota (pos 0)) (length pools.nodes) (omega arith) (flat_map nodes_of pools.statements)
     (roots-below (length pools.nodes) pools.statements program.nodes_there)
     ∙ over-statements pools.numbers pools.nodes program.ordered (node.Iota (pos 0)) pools.statements
+
+-- the walk of a node goes over the expressions in its tree
+pub walk-each : (pools : Pools) → IsProgram pools → (number : ℕ) → number < length pools.nodes
+    → map (tree_at (trees pools.numbers pools.nodes)) (walk_of pools.nodes number) ≡ subexpressions (tree_at (trees pools.numbers pools.nodes) number)
+walk-each pools program number there =
+    let t = tree_at (trees pools.numbers pools.nodes) in
+    ap (map t) (sym (append-nil (walk_of pools.nodes number)))
+    ∙ over pools.numbers pools.nodes program.ordered (node.Iota (pos 0)) (length pools.nodes) (omega arith) (number ∷ []) (there, tt)
+    ∙ append-nil (subexpressions (t number))

@@ -4,7 +4,7 @@ ghost use Rattle.std.specs.List.{AllByRecursion, count_by, flat_map};
 ghost use Rattle.moa_tree.specs.declared.tree.Node.{Node as PoolNode};
 ghost use Rattle.moa_tree.specs.Pool.{IsOrdered, expr_of, operands, tree_at, trees, walk_of};
 ghost use Rattle.moa_tree.specs.Pools.{IsProgram, Pools, tree_of, walk};
-ghost use Rattle.moa_tree.specs.Subexpressions.{subexpressions_of};
+ghost use Rattle.moa_tree.specs.Subexpressions.{subexpressions, subexpressions_of};
 
 /// The tree of a node is its operator over the trees of its operands.
 pub fn node_trees()
@@ -14,8 +14,8 @@ pub fn node_trees()
         ≡ expr_of pool (trees pool nodes) (slice_index_or nodes number other) }
 {}
 
-/// The walk of a node goes on with the walks of its operands. That of a program has each of its nodes once, and
-/// goes over the expressions of its tree in prefix order.
+/// The walk of a node goes on with the walks of its operands, and goes over the expressions in its tree in prefix order.
+/// That of a program has each of its nodes once, and goes over the expressions of its tree.
 pub fn walks_in_order()
     ensures step { (nodes : List PoolNode) → IsOrdered nodes
         → (number : ℕ) (other : PoolNode) → number < length nodes
@@ -26,4 +26,7 @@ pub fn walks_in_order()
         → AllByRecursion (λ number. number < length pools.nodes) (walk pools) }
     ensures expressions { (pools : Pools) → IsProgram pools
         → map (tree_at (trees pools.numbers pools.nodes)) (walk pools) ≡ flat_map subexpressions_of (tree_of pools).statements }
+    ensures each { (pools : Pools) → IsProgram pools → (number : ℕ) → number < length pools.nodes
+        → map (tree_at (trees pools.numbers pools.nodes)) (walk_of pools.nodes number)
+        ≡ subexpressions (tree_at (trees pools.numbers pools.nodes) number) }
 {}

@@ -1,7 +1,6 @@
 // The form of a job.
 ghost use Rattle.std.specs.Prelude.{◌≡◌, ◌<◌, ◌+◌, ◌↔◌, IsTrue, [], length, slice_get, Some};
-ghost use Rattle.shapes_core.specs.Shape.{total};
-ghost use Rattle.normal_form.specs.Kept.{IsForm, IsNormal};
+ghost use Rattle.normal_form.specs.Kept.{IsForm};
 
 use crate::region::Region;
 use crate::term::Term;
@@ -30,9 +29,10 @@ impl Model for Normal {
 }
 
 impl Normal {
-    /// The form of a job whose array has this shape, on a region; the last term is its top.
+    /// The form of a job whose array has this shape, on a region; the last term is its top. It has no term where the array has
+    /// no element.
     pub fn new(job: Job, shape: Shape, region: Region, terms: Vec<Term>) -> Normal
-        requires { IsNormal (record { job = job; shape = shape; region = region; terms = terms.items }) }
+        requires { IsForm (record { job = job; shape = shape; region = region; terms = terms.items }) }
         ensures { result ≡ record { job = job; shape = shape; region = region; terms = terms.items } }
     {
         Normal {

@@ -1,6 +1,7 @@
 // Boxes of index vectors.
-ghost use Rattle.std.specs.Prelude.{◌≡◌, ◌↔◌, ◌≤◌, IsSome, IfSome, length};
+ghost use Rattle.std.specs.Prelude.{◌≡◌, ◌↔◌, ◌<◌, ◌≤◌, ◌∷◌, [], IsSome, IfSome, length, map};
 
+use shapes_core::Shape;
 use std::marker::Model;
 
 /// The greatest number of pairs: one an axis.
@@ -28,6 +29,28 @@ impl Model for Region {
     ghost inverse_ok = { λ n h i. record { list = h.fills i; count = h.counted i } };
 }
 
+/// The box of an axis before those of others.
+fn in_front(extent: u64, others: &Region) -> Region
+    requires { length others.now < 6 }
+    ensures { result ≡ (0, extent) ∷ others.now }
+{
+    let list = others.list();
+    let mut pairs = [(0, extent); MOST_PAIRS];
+    pairs[1..=list.len()].copy_from_slice(list);
+    Region::new(&pairs[..=list.len()]).unwrap()
+}
+
+/// The box of all index vectors of these extents.
+fn whole_of(extents: &[u64]) -> Region
+    requires { length extents.now ≤ 6 }
+    ensures { result ≡ map (λ n. (0, n)) extents.now }
+{
+    match extents {
+        [] => Region::new(&[]).unwrap(),
+        [extent, others @ ..] => in_front(*extent, &whole_of(others)),
+    }
+}
+
 impl Region {
     /// The box of these pairs, or `None` where they are more than 6.
     pub fn new(list: &[(u64, u64)]) -> Option<Region>
@@ -43,6 +66,13 @@ impl Region {
             list: filled,
             count: list.len(),
         })
+    }
+
+    /// The box of all index vectors of a shape.
+    pub fn whole(shape: &Shape) -> Region
+        ensures { result ≡ map (λ n. (0, n)) shape.now }
+    {
+        whole_of(shape.extents())
     }
 
     /// The pairs, one an axis.

@@ -58,10 +58,12 @@ named-represents s law [] [] name h = law.constant (pos 0)
 named-represents s law [] (known ∷ env) name h = absurd h
 named-represents s law (named ∷ names) [] name h = absurd h
 named-represents s law (named ∷ names) (known ∷ env) name h =
-    let found = one-named s (bytes_eq known.0 name) named.1 (beside nameless names name) known.1 (beside unknown env name) (beside [] (shapes_of env) name)
+    let found = one-named s (bytes_eq known.0 name) named.1 (beside nameless names name) known.1 (beside unknown env name)
+    (beside [] (shapes_of env) name)
     h.0.2 (named-represents s law names env name h.1) in
     subst (λ first. Represents s (if bytes_eq first name then named.1 else beside nameless names name).form
-    (if bytes_eq known.0 name then known.1.shape else beside [] (shapes_of env) name) (if bytes_eq known.0 name then known.1 else beside unknown env name).at)
+    (if bytes_eq known.0 name then known.1.shape else beside [] (shapes_of env) name)
+    (if bytes_eq known.0 name then known.1 else beside unknown env name).at)
     (sym h.0.0) found
 
 -- ---- scans
@@ -173,7 +175,8 @@ module _ (s : Store) (law : FormerLaws s) (names : Names) (env : Env) (agree : A
       let k = operand.outer op left right h in
       let both = held-both s env scan left right held in
       subst (λ known. Represents s
-      (λ entries. on_both (Bin op) (form names scan left (take (length known) entries)) (form names (scan_behind scan left) right (drop (length known) entries)))
+      (λ entries. on_both (Bin op) (form names scan left (take (length known) entries))
+      (form names (scan_behind scan left) right (drop (length known) entries)))
       (u ++ t) (λ index. apply op (value env left (take (length u) index)) (value env right (drop (length u) index)))) (same-in left)
       (law.two op (λ entries. form names scan left (take (length u) entries))
       (λ entries. form names (scan_behind scan left) right (drop (length u) entries)) (u ++ t)
@@ -193,15 +196,18 @@ module _ (s : Store) (law : FormerLaws s) (names : Names) (env : Env) (agree : A
       (λ entries. folding fold (slice_index known (length known - 1))
       (λ i. on_both (Bin op) (form names scan left (take (length known - 1) entries ++ i ∷ []))
       (form names (scan_behind scan left) right (i ∷ drop (length known - 1) entries))))
-      shape (λ index. fold_below fold n (λ i. apply op (value env left (take axes index ++ i ∷ [])) (value env right (i ∷ drop axes index))))) (same-in left)
+      shape (λ index. fold_below fold n (λ i. apply op (value env left (take axes index ++ i ∷ [])) (value env right (i ∷ drop axes index)))))
+      (same-in left)
       (law.folds fold n
-      (λ entries i. on_both (Bin op) (form names scan left (take axes entries ++ i ∷ [])) (form names (scan_behind scan left) right (i ∷ drop axes entries)))
+      (λ entries i. on_both (Bin op) (form names scan left (take axes entries ++ i ∷ []))
+      (form names (scan_behind scan left) right (i ∷ drop axes entries)))
       shape (λ index i. apply op (value env left (take axes index ++ i ∷ [])) (value env right (i ∷ drop axes index)))
       (law.two op (λ entries. form names scan left (take axes (drop 1 entries) ++ slice_index_or entries 0 (At (pos 0)) ∷ []))
       (λ entries. form names (scan_behind scan left) right (slice_index_or entries 0 (At (pos 0)) ∷ drop axes (drop 1 entries))) (n ∷ shape)
       (λ index. value env left (take axes (drop 1 index) ++ slice_index index 0 ∷ []))
       (λ index. value env right (slice_index index 0 ∷ drop axes (drop 1 index)))
-      (law.moved (form names scan left) (n ∷ shape) u (value env left) (λ entries. take axes (drop 1 entries) ++ slice_index_or entries 0 (At (pos 0)) ∷ [])
+      (law.moved (form names scan left) (n ∷ shape) u (value env left)
+      (λ entries. take axes (drop 1 entries) ++ slice_index_or entries 0 (At (pos 0)) ∷ [])
       (λ index. take axes (drop 1 index) ++ slice_index index 0 ∷ []) (represented scan left both.0 k.0) k.2)
       (law.moved (form names (scan_behind scan left) right) (n ∷ shape) t (value env right)
       (λ entries. slice_index_or entries 0 (At (pos 0)) ∷ drop axes (drop 1 entries)) (λ index. slice_index index 0 ∷ drop axes (drop 1 index))
@@ -218,4 +224,5 @@ module _ (s : Store) (law : FormerLaws s) (names : Names) (env : Env) (agree : A
   represented scan (Scan fold of) held h =
       let u = shape_in env of in
       subst (λ known. Represents s (λ entries. loading scan known entries) u (value env (Scan fold of))) (same-in of)
-      (represents-same s (λ entries. loading scan u entries) u (λ index. s scan (gamma index u)) (value env (Scan fold of)) (law.stored scan u) held.0)
+      (represents-same s (λ entries. loading scan u entries) u (λ index. s scan (gamma index u)) (value env (Scan fold of)) (law.stored scan u)
+      held.0)

@@ -1,9 +1,11 @@
 -- The forms of an accepted program's jobs give the arrays of its jobs: from one statement to the next.
-use Rattle.std.specs.Prelude.{◌≡◌, ℕ, ◌+◌, ℤ, pos, List, [], ◌∷◌, ◌++◌, length, map, reverse, slice_index_or, Ok}
+use Rattle.std.specs.Prelude.{◌≡◌, ℕ, ◌+◌, ℤ, pos, List, [], ◌∷◌, ◌++◌, length, map, reverse, slice_get, slice_index_or, Some, Result, Ok, Err, IsOk}
 use Rattle.std.specs.List.{AllByRecursion, flat_map, fold, sum_by}
-use Rattle.std.proofs.Common.{refl, ap, sym, subst, ◌∙◌}
+use Rattle.std.proofs.Common.{refl, ap, sym, subst, ◌∙◌, arith}
+use Rattle.std.proofs.lemmas.Bool.{false≢true}
 use Rattle.std.proofs.lemmas.List.{append_assoc, length-map, map-append}
 use Rattle.std.proofs.lemmas.List.Sums.{fold-append}
+use Rattle.std.proofs.lemmas.Option.{get_or_from_slice_get}
 use Rattle.shapes_core.specs.Gamma.{gamma}
 use Rattle.moa_tree.specs.Axes.{naturals}
 use Rattle.moa_tree.specs.Denotation.{Store as Lists, after, after_all, denote_from, denote_scans_from, output_list, outputs_of, scans_of, values}
@@ -11,7 +13,7 @@ use Rattle.moa_tree.specs.Expr.{Expr, Item, Input, Let, Output}
 use Rattle.moa_tree.specs.ShapeOf.{Shapes, beside, shape_of}
 use Rattle.moa_tree.specs.Subexpressions.{subexpressions}
 use Rattle.moa_tree.specs.Values.{Env, element, shape_in, shapes_of, value}
-use Rattle.shape_check.specs.Jobs.{output_count}
+use Rattle.shape_check.specs.Jobs.{input_count, output_count}
 use Rattle.shape_check.specs.Layout.{shapes_after}
 use Rattle.shape_check.specs.Statements.{verdict_of}
 use Rattle.shape_check.specs.Verdict.{verdict}
@@ -22,12 +24,17 @@ use Rattle.psi_rules.specs.Areas.{area_lists, given, given_from, input_list, sto
 use Rattle.psi_rules.specs.Jobs.{Next, Task, first, forms, forms_from, job_form, named, next_after, scanned, task_form, tasks_of}
 use Rattle.psi_rules.specs.Operands.{IsAccepted, OperandsMove}
 use Rattle.psi_rules.specs.Rules.{Names, form, loading, shape_in as named_shape}
-use Rattle.psi_rules.proofs.AreaLemmas.{AreAt, ReadBack, at-behind, at-both, at-end, hold-each, input-counted, inputs-counted, output-counted, outputs-counted}
+use Rattle.psi_rules.proofs.AreaLemmas.{ReadBack, hold-each, input-counted, inputs-counted, output-counted, outputs-counted}
 use Rattle.psi_rules.proofs.FormLemmas.{represents-same, same-shapes}
-use Rattle.psi_rules.proofs.ListLemmas.{each-append, each-reverse, zip-append, zip-mapped}
+use Rattle.psi_rules.proofs.ListLemmas.{AreAt, at-both, at-here, each-append, each-reverse, zip-append, zip-mapped}
 use Rattle.psi_rules.proofs.TaskLemmas.{GivesAll, IsGiven, job-is-form, scans-given}
 
 -- ---- what is accepted
+
+-- the shapes of what is accepted
+pub accepted-shapes : {X E : Type 0} (r : Result X E) → IsOk r → (x : X) × (r ≡ Ok x)
+accepted-shapes (Ok x) h = (x, refl)
+accepted-shapes (Err e) h = absurd (false≢true h)
 
 abbrev pub IsAcceptedItem : Shapes → Item → Type 0
 IsAcceptedItem shapes (Input name extents) = Unit {0}
@@ -41,7 +48,8 @@ AreAccepted inputs env (item ∷ items) = IsAcceptedItem (shapes_of env) item ×
 
 -- in an accepted program the expressions of statements of one kind are accepted
 abbrev pub AcceptsEach : (List ℕ → Expr → Item) → Type 0
-AcceptsEach statement = (before behind : List Item) (name : List ℕ) (of : Expr) (shapes : Shapes) → verdict_of (before ++ statement name of ∷ behind) ≡ Ok shapes
+AcceptsEach statement =
+    (before behind : List Item) (name : List ℕ) (of : Expr) (shapes : Shapes) → verdict_of (before ++ statement name of ∷ behind) ≡ Ok shapes
     → (at : ℕ) → verdict (fold shapes_after [] before) at of ≡ Ok (shape_of (fold shapes_after [] before) of)
 
 -- the names after some statements have the shapes of the statements
@@ -62,7 +70,8 @@ items-accepted lets outputs known inputs before (item ∷ items) shapes h =
     let more = before ++ item ∷ [] in
     let whole = ap verdict_of (append_assoc before (item ∷ []) items) ∙ h in (
       subst (λ t. IsAcceptedItem t item) (sym (known inputs [] before)) (item-accepted lets outputs before items item shapes h),
-      subst (λ env. AreAccepted inputs env items) (fold-append (after inputs) [] before (item ∷ [])) (items-accepted lets outputs known inputs more items shapes whole),
+      subst (λ env. AreAccepted inputs env items) (fold-append (after inputs) [] before (item ∷ []))
+          (items-accepted lets outputs known inputs more items shapes whole),
     )
 
 -- ---- one statement
@@ -75,11 +84,11 @@ module _ (areas : List (List ℤ)) where
   Loads = (area : ℕ) (shape : List ℕ) → Represents held (loading area shape) shape (λ index. held area (gamma index shape))
 
   -- an array whose list an area holds
-  stored-represents : Loads → (area : ℕ) (shape : List ℕ) (list : List ℤ) → slice_index_or areas area [] ≡ list
+  stored-represents : Loads → (area : ℕ) (shape : List ℕ) (list : List ℤ) → slice_get areas area ≡ Some list
       → Represents held (loading area shape) shape (element list shape)
   stored-represents loads area shape list e =
       represents-same held (loading area shape) shape (λ index. held area (gamma index shape)) (element list shape) (loads area shape)
-      (λ index inside. ap (λ l. slice_index_or l (gamma index shape) (pos 0)) e)
+      (λ index inside. ap (λ l. slice_index_or l (gamma index shape) (pos 0)) (get_or_from_slice_get areas area list [] e))
 
   module _ (back : ReadBack) (loads : Loads) (gives : (names : Names) (env : Env) → AreNamed held names env → GivesAll held names env) (operand : (shapes : Shapes) → OperandsMove shapes)
       (inputs : Lists) where
@@ -98,7 +107,8 @@ module _ (areas : List (List ℤ)) where
           (
             refl,
             sym (same-in names env agree of),
-            subst (λ known. Represents held (loading next.output known) (shape_in env of) (element (output_list env of) (shape_in env of))) (same-in names env agree of) made,
+            subst (λ known. Represents held (loading next.output known) (shape_in env of) (element (output_list env of) (shape_in env of)))
+                (same-in names env agree of) made,
           ),
           agree,
         )
@@ -109,11 +119,13 @@ module _ (areas : List (List ℤ)) where
     tasks-given names env next (Let name of) agree accepted scans =
         let found = scanned next.scan (subexpressions of) in
         each-append (IsGiven held names env) (reverse found) []
-        (each-reverse (IsGiven held names env) found (scans-given held names env (gives names env agree) (operand (shapes_of env)) next.scan of scans accepted)) tt
+        (each-reverse (IsGiven held names env) found (scans-given held names env (gives names env agree) (operand (shapes_of env))
+        next.scan of scans accepted)) tt
     tasks-given names env next (Output name of) agree accepted scans =
         let found = scanned next.scan (subexpressions of) in
         each-append (IsGiven held names env) (reverse found) ((of, next.scan) ∷ [])
-        (each-reverse (IsGiven held names env) found (scans-given held names env (gives names env agree) (operand (shapes_of env)) next.scan of scans accepted))
+        (each-reverse (IsGiven held names env) found (scans-given held names env (gives names env agree) (operand (shapes_of env))
+        next.scan of scans accepted))
         (gives names env agree next.scan of scans accepted, tt)
 
     task-is-form : (names : Names) (env : Env) → AreNamed held names env → (task : Task) → IsGiven held names env task
@@ -124,7 +136,7 @@ module _ (areas : List (List ℤ)) where
 
     -- ---- all statements
 
-    pub jobs-given : (items : List Item) (names : Names) (env : Env) (next : Next) → AreNamed held names env → AreAccepted inputs env items
+    jobs-given : (items : List Item) (names : Names) (env : Env) (next : Next) → AreNamed held names env → AreAccepted inputs env items
         → AreAt areas next.input (flat_map (input_list inputs) items)
         → AreAt areas next.output (map (λ output. output.1) (denote_from inputs env items))
         → AreAt areas next.scan (denote_scans_from inputs env items)
@@ -160,7 +172,10 @@ program-given back inputs items loads gives operand accepted =
     let ins = flat_map (input_list inputs) items in
     let outs = map (λ output. output.1) (denote_from inputs [] items) in
     let scans = denote_scans_from inputs [] items in
-    jobs-given areas back loads gives operand inputs items [] [] (first items) tt accepted (at-behind [] ins (outs ++ scans))
-    (subst (λ n. AreAt areas n outs) (inputs-counted inputs items) (at-behind ins outs scans))
-    (subst (λ n. AreAt areas (n + sum_by output_count items) scans) (inputs-counted inputs items)
-    (subst (λ n. AreAt areas (length ins + n) scans) (outputs-counted inputs [] items) (at-end ins outs scans)))
+    let parts = at-both areas 0 ins (outs ++ scans) (at-here areas) in
+    let more = at-both areas (0 + length ins) outs scans parts.1 in
+    let in-many : 0 + length ins ≡ sum_by input_count items = omega (arith, inputs-counted inputs items) in
+    let out-many : 0 + length ins + length outs ≡ sum_by input_count items + sum_by output_count items =
+    omega (arith, in-many, outputs-counted inputs [] items) in
+    jobs-given areas back loads gives operand inputs items [] [] (first items) tt accepted parts.0
+    (subst (λ n. AreAt areas n outs) in-many more.0) (subst (λ n. AreAt areas n scans) out-many more.1)

@@ -3,7 +3,7 @@ use Rattle.std.specs.Prelude.{◌≡◌, ◌≢◌, ℕ, zero, suc, ◌+◌, ◌
 use Rattle.std.specs.List.{AllByRecursion, AllZip, fold, sum_by}
 use Rattle.std.specs.declared.option.Option.{Option}
 use Rattle.std.specs.declared.option.Option.TheVariants.{Some}
-use Rattle.std.proofs.Common.{refl, ap, sym, subst, ◌∙◌, arith, le_refl}
+use Rattle.std.proofs.Common.{refl, ap, sym, subst, arith, le_refl}
 use Rattle.std.proofs.lemmas.List.{reverse-reverse}
 use Rattle.std.proofs.lemmas.List.Sums.{sum_by-cons}
 use Rattle.std.proofs.lemmas.Option.{none-some}
@@ -31,8 +31,8 @@ use Rattle.psi_rules.specs.Rules.{Names, form, loading, shape_in, shapes_of}
 use Rattle.psi_rules.proofs.JobLemmas.{AreAccepted, IsAcceptedItem}
 use Rattle.psi_rules.proofs.KeepFormLemmas.{room-fits}
 use Rattle.psi_rules.proofs.KeepTaskLemmas.{AreFree, IsCheap, IsTaskOf, NoneEmpty, all-good, cheap-room, job-is-kept, jobs-cheap, scans-kept}
-use Rattle.psi_rules.proofs.ListLemmas.{each-reverse, zip-append}
-use Rattle.psi_rules.proofs.ZipLemmas.{zip-reverse}
+use Rattle.psi_rules.proofs.ListLemmas.{each-cut, each-follows, each-reverse, zip-append, zip-reverse}
+use Rattle.psi_rules.proofs.ScopeLemmas.{names-shapes, shapes-alike}
 
 -- ---- areas
 
@@ -89,21 +89,7 @@ shapes-before : (items : List Item) (shapes : Shapes) → AreShapes (fold shapes
 shapes-before [] shapes h = h
 shapes-before (item ∷ items) shapes h = (shapes-before items (shapes_after shapes item) h).1
 
-names-shapes : (names : Names) (next : Next) (item : Item) → shapes_of (named names next item ∷ names) ≡ shapes_after (shapes_of names) item
-names-shapes names next (Input name extents) = refl
-names-shapes names next (Let name of) = refl
-names-shapes names next (Output name of) = refl
-
-env-shapes : (inputs : Lists) (env : Env) (item : Item) → env_shapes (after inputs env item) ≡ shapes_after (env_shapes env) item
-env-shapes inputs env (Input name extents) = refl
-env-shapes inputs env (Let name of) = refl
-env-shapes inputs env (Output name of) = refl
-
--- ---- lists
-
-each-split : {X : Type 0} (P : X → Type 0) (xs ys : List X) → AllByRecursion P (xs ++ ys) → AllByRecursion P xs × AllByRecursion P ys
-each-split P [] ys h = (tt, h)
-each-split P (x ∷ xs) ys h = let parts = each-split P xs ys h.1 in ((h.0, parts.0), parts.1)
+-- ---- lists of jobs
 
 kept-append : (jobs more : List TreeJob) (arrays others : List Given) (forms rest : List (Option Normal))
     → AreKeptForms jobs arrays forms → AreKeptForms more others rest → AreKeptForms (jobs ++ more) (arrays ++ others) (forms ++ rest)
@@ -116,7 +102,7 @@ kept-append (j ∷ jobs) more [] others (f ∷ forms) rest h k = absurd h
 kept-append (j ∷ jobs) more (g ∷ arrays) others [] rest h k = absurd h
 kept-append (j ∷ jobs) more (g ∷ arrays) others (f ∷ forms) rest h k = (h.0, kept-append jobs more arrays others forms rest h.1 k)
 
-outputs-many : (area node : ℕ) (item : Item) → length (output_jobs area node item) ≡ output_count item
+pub outputs-many : (area node : ℕ) (item : Item) → length (output_jobs area node item) ≡ output_count item
 outputs-many area node (Input name extents) = refl
 outputs-many area node (Let name of) = refl
 outputs-many area node (Output name of) = refl
@@ -181,14 +167,14 @@ module _ (stores : Stores) (keep : (names : Names) (prices : Prices) → KeepExp
   tasks-done names prices next node (Let name of) items reached agree accepted built cheap =
       let free = λ (k : ℕ) (below : k < length (scans_of (Let [] of))). agree (next.scan + k)
       (free-scan start next (Let name of ∷ items) k reached) in
-      let parts = each-split (IsCheap prices) (reverse (scan_jobs 0 0 (subexpressions of))) [] cheap in
+      let parts = each-cut (IsCheap prices) (reverse (scan_jobs 0 0 (subexpressions of))) [] cheap in
       zip-append (IsTaskOf names) (reverse (scan_jobs next.scan node (subexpressions of))) []
       (reverse (scanned next.scan (subexpressions of))) []
       (scans-done names prices next node of (operand (shapes_of names)) accepted built free parts.0) tt
   tasks-done names prices next node (Output name of) items reached agree accepted built cheap =
       let free = λ (k : ℕ) (below : k < length (scans_of (Let [] of))). agree (next.scan + k)
       (free-scan start next (Output name of ∷ items) k reached) in
-      let parts = each-split (IsCheap prices) (reverse (scan_jobs 0 0 (subexpressions of))) (output_jobs 0 0 (Output name of)) cheap in
+      let parts = each-cut (IsCheap prices) (reverse (scan_jobs 0 0 (subexpressions of))) (output_jobs 0 0 (Output name of)) cheap in
       let least : next.output < start.scan = omega (arith, reached.outputs, sum_by-cons output_count (Output name of) items) in
       zip-append (IsTaskOf names) (reverse (scan_jobs next.scan node (subexpressions of))) (output_jobs next.output node (Output name of))
       (reverse (scanned next.scan (subexpressions of))) ((of, next.scan) ∷ [])
@@ -224,7 +210,7 @@ module _ (stores : Stores) (keep : (names : Names) (prices : Prices) → KeepExp
       let tasks = tasks_of next item in
       let rest = program-kept inputs items more later (prices_after prices item) (next_after next item)
       (node + length (subexpressions_of item))
-      (env-shapes inputs env item ∙ ap (λ shapes. shapes_after shapes item) same ∙ sym (names-shapes names next item))
+      (shapes-alike inputs env names next item same)
       (reached-after start next item items reached)
       (names-kept names prices next item items reached agree known built.0 (shapes-before items (shapes_after (shapes_of names) item) well))
       accepted.1 built.1 (subst (λ shapes. AreShapes (fold shapes_after shapes items)) (sym (names-shapes names next item)) well)
@@ -265,10 +251,10 @@ kept-at (j ∷ jobs) (g ∷ arrays) (f ∷ forms) zero tree_job array form h job
     let first : j ≡ tree_job = cc in
     subst (λ x. IsKeptForm x array (Some form)) first
     (subst (λ x. IsKeptForm j x (Some form)) given (subst (λ x. IsKeptForm j g x) same h.0))
-kept-at (j ∷ jobs) (g ∷ arrays) (f ∷ forms) (suc number) tree_job array form h job at made = kept-at jobs arrays forms number tree_job array form h.1 job at made
+kept-at (j ∷ jobs) (g ∷ arrays) (f ∷ forms) (suc number) tree_job array form h job at made =
+    kept-at jobs arrays forms number tree_job array form h.1 job at made
 
 -- ---- programs
 
 pub writable-built : (version : Version) (items : List Item) → AllByRecursion (IsWritable version) items → AllByRecursion IsBuiltItem items
-writable-built version [] h = tt
-writable-built version (item ∷ items) h = (h.0.built, writable-built version items h.1)
+writable-built version items h = each-follows (IsWritable version) IsBuiltItem (λ item writable. writable.built) items h

@@ -23,7 +23,7 @@ use Rattle.psi_rules.specs.Jobs.{Task, job_form, scanned}
 use Rattle.psi_rules.specs.Keeping.{AreKeptNamed, HasRoom, IsKeptForm, KeepExpressions}
 use Rattle.psi_rules.specs.Operands.{IsAccepted, OperandsMove}
 use Rattle.psi_rules.specs.Rules.{Names, form, shape_in, shapes_of}
-use Rattle.psi_rules.proofs.ListLemmas.{each-append}
+use Rattle.psi_rules.proofs.ListLemmas.{each-append, each-follows}
 
 -- ---- the variables of a job
 
@@ -73,13 +73,10 @@ sum-each f (x ∷ xs) most h =
 abbrev pub IsCheap : Prices → TreeJob → Type 0
 IsCheap prices tree_job = nodes prices tree_job.of ≤ 1024
 
-cheap-each : (prices : Prices) (jobs : List TreeJob) → AllByRecursion (λ j. job_size prices j ≤ 1024) jobs
-    → AllByRecursion (IsCheap prices) jobs
-cheap-each prices [] h = tt
-cheap-each prices (tree_job ∷ jobs) h = (omega (arith, h.0), cheap-each prices jobs h.1)
-
 pub jobs-cheap : (prices : Prices) (jobs : List TreeJob) → sum_by (job_size prices) jobs ≤ 1024 → AllByRecursion (IsCheap prices) jobs
-jobs-cheap prices jobs h = cheap-each prices jobs (sum-each (job_size prices) jobs 1024 h)
+jobs-cheap prices jobs h =
+    each-follows (λ j. job_size prices j ≤ 1024) (IsCheap prices) (λ j cheap. omega (arith, cheap)) jobs
+    (sum-each (job_size prices) jobs 1024 h)
 
 pub cheap-room : (n : ℕ) → n ≤ 1024 → HasRoom 0 n
 cheap-room n h = let e : n * greatest_extent ≤ 1024 * greatest_extent = mul-le-mul_right greatest_extent h in omega (arith, e)

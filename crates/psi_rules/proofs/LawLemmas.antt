@@ -43,14 +43,16 @@ pub record FormerLaws (s : Store) : Type 0 where
   pub joins : (left right : Former) (shape first second : List ℕ) (at over : List ℕ → ℤ)
       → 0 < length shape → slice_index shape 0 ≡ slice_index first 0 + slice_index second 0
       → ((index : List ℕ) → IsIndex index shape → nat_lt (slice_index index 0) (slice_index first 0) ≡ true → IsIndex index first)
-      → ((index : List ℕ) → IsIndex index shape → nat_lt (slice_index index 0) (slice_index first 0) ≡ false → IsIndex (on_axis 0 behind first index) second)
+      → ((index : List ℕ) → IsIndex index shape → nat_lt (slice_index index 0) (slice_index first 0) ≡ false
+      → IsIndex (on_axis 0 behind first index) second)
       → Represents s left first at → Represents s right second over
       → Represents s
       (λ entries. joining (slice_index first 0) (slice_index second 0) (slice_index_or entries 0 (At (pos 0)))
       (left entries) (right (on_axis 0 behind_entry first entries)))
       shape (either_part 0 first at over)
   pub folds : (op : Op) (n : ℕ) (item : List Entry → Entry → Making) (shape : List ℕ) (at : List ℕ → ℕ → ℤ)
-      → Represents s (λ entries. item (drop 1 entries) (slice_index_or entries 0 (At (pos 0)))) (n ∷ shape) (λ index. at (drop 1 index) (slice_index index 0))
+      → Represents s (λ entries. item (drop 1 entries) (slice_index_or entries 0 (At (pos 0)))) (n ∷ shape)
+      (λ index. at (drop 1 index) (slice_index index 0))
       → Represents s (λ entries. folding op n (item entries)) shape (λ index. fold_below op n (at index))
   pub reshapes : (of : Former) (shape operand : List ℕ) (at : List ℕ → ℤ) → total shape ≡ total operand → Represents s of operand at
       → Represents s (λ entries. reshaping shape operand entries of) shape (λ index. at (ungamma operand (gamma index shape)))
@@ -61,7 +63,8 @@ some-axis (n ∷ shape) h = omega arith
 
 pub join-law : (s t : List ℕ) → not (is_scalar s) ≡ true
     → ((index : List ℕ) → IsIndex index (joined 0 s t) → nat_lt (slice_index index 0) (slice_index s 0) ≡ true → IsIndex index s)
-    → ((index : List ℕ) → IsIndex index (joined 0 s t) → nat_lt (slice_index index 0) (slice_index s 0) ≡ false → IsIndex (on_axis 0 behind s index) t)
+    → ((index : List ℕ) → IsIndex index (joined 0 s t) → nat_lt (slice_index index 0) (slice_index s 0) ≡ false
+    → IsIndex (on_axis 0 behind s index) t)
     → IsJoin s t (joined 0 s t)
 join-law [] t full front back = absurd (false≢true full)
 join-law (n ∷ s) t full front back = record { some = omega arith; extent = refl; front = front; back = back }

@@ -59,7 +59,8 @@ reverse-stands m [] (i ∷ index) h = absurd (let e : 0 ≡ suc (length index) =
 reverse-stands m (entry ∷ entries) [] h = absurd (let e : suc (length entries) ≡ 0 = same-length m (entry ∷ entries) [] h in omega (arith, e))
 reverse-stands m (entry ∷ entries) (i ∷ index) h =
     let last = one-more m entry [] i [] (first-stands m entry entries i index h) refl in
-    let both = append-stands m (reverse entries) (entry ∷ []) (reverse index) (i ∷ []) (reverse-stands m entries index (rest-stand m entry entries i index h)) last in
+    let both = append-stands m (reverse entries) (entry ∷ []) (reverse index) (i ∷ [])
+    (reverse-stands m entries index (rest-stand m entry entries i index h)) last in
     ap (map (number m)) (reverse_onto entries entry []) ∙ both ∙ ap (map pos) (sym (reverse_onto index i []))
 
 -- ---- variables below one
@@ -212,7 +213,8 @@ axis-stands f g m one (n ∷ shape) entries [] inside h = absurd inside
 axis-stands f g m one (n ∷ shape) [] (i ∷ index) inside h =
     absurd (let e : 0 ≡ suc (length index) = same-length m [] (i ∷ index) h in omega (arith, e))
 axis-stands f g m one (n ∷ shape) (entry ∷ entries) (i ∷ index) inside h =
-    one-more m (f n entry) entries (g n i) index (one n entry i inside.0 (first-stands m entry entries i index h)) (rest-stand m entry entries i index h)
+    one-more m (f n entry) entries (g n i) index (one n entry i inside.0 (first-stands m entry entries i index h))
+    (rest-stand m entry entries i index h)
 
 axis-below : (f : ℕ → Entry → Entry) (next : ℕ) → ((n : ℕ) (entry : Entry) → uses_below next entry → uses_below next (f n entry))
     → (shape : List ℕ) (entries : List Entry) → AreBelow next entries → AreBelow next (on_axis 0 f shape entries)

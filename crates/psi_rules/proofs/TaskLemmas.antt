@@ -50,7 +50,8 @@ job-gives : (store : Store) (former : Former) (shape : List ℕ) (at : List ℕ 
 job-gives store former shape at h index inside =
     let long : length index ≡ length shape = length-index index shape inside in
     h.gives (assigned index) (variables (length shape)) (length shape) index (variables-below (length shape) 0 (length shape) (omega arith))
-    (subst (λ n. StandFor (assigned index) (variables n) index) long (variables-stand index 0 index (λ k. ap (λ n. slice_index_or index n 0) (omega arith)))) inside
+    (subst (λ n. StandFor (assigned index) (variables n) index) long
+    (variables-stand index 0 index (λ k. ap (λ n. slice_index_or index n 0) (omega arith)))) inside
 
 chosen-form : (store : Store) (test : Bool) (former : Former) (shape : List ℕ) (at : List ℕ → ℤ) → (total shape == 0) ≡ test
     → Represents store former shape at
@@ -73,13 +74,22 @@ scanned-append scan (Scan fold of ∷ front) back =
     ap (λ tasks. (of, suc scan) ∷ tasks) (scanned-append (suc scan) front back ∙ ap (λ n. scanned (suc scan) front ++ scanned n back) e)
 scanned-append scan (other ∷ front) back = scanned-append scan front back
 
+-- what holds of the tasks of two operands' scans holds of those of both
+pub tasks-both : (P : Task → Type 0) (scan : ℕ) (left right : Expr) → AllByRecursion P (scanned scan (subexpressions left))
+    → AllByRecursion P (scanned (scan_behind scan left) (subexpressions right))
+    → AllByRecursion P (scanned scan (subexpressions left ++ subexpressions right))
+tasks-both P scan left right h k =
+    subst (AllByRecursion P) (sym (scanned-append scan (subexpressions left) (subexpressions right)))
+    (each-append P (scanned scan (subexpressions left)) (scanned (scan_behind scan left) (subexpressions right)) h k)
+
 -- what the rules make of a task's expression gives its array
 abbrev pub IsGiven : Store → Names → Env → Task → Type 0
 IsGiven store names env task = Represents store (form names task.1 task.0) (shape_in env task.0) (value env task.0)
 
 -- the same of each accepted expression whose scans are held
 abbrev pub GivesAll : Store → Names → Env → Type 0
-GivesAll store names env = (scan : ℕ) (expr : Expr) → HoldEach store env scan (scans_in expr) → IsAccepted (shapes_of env) expr → IsGiven store names env (expr, scan)
+GivesAll store names env =
+    (scan : ℕ) (expr : Expr) → HoldEach store env scan (scans_in expr) → IsAccepted (shapes_of env) expr → IsGiven store names env (expr, scan)
 
 module _ (store : Store) (names : Names) (env : Env) (gives : GivesAll store names env) (operand : OperandsMove (shapes_of env)) where
   abbrev pub AreGiven : List Task → Type 0
@@ -88,9 +98,7 @@ module _ (store : Store) (names : Names) (env : Env) (gives : GivesAll store nam
   both-given : (scan : ℕ) (left right : Expr) → AreGiven (scanned scan (subexpressions left))
       → AreGiven (scanned (scan_behind scan left) (subexpressions right))
       → AreGiven (scanned scan (subexpressions left ++ subexpressions right))
-  both-given scan left right h k =
-      subst AreGiven (sym (scanned-append scan (subexpressions left) (subexpressions right)))
-      (each-append (IsGiven store names env) (scanned scan (subexpressions left)) (scanned (scan_behind scan left) (subexpressions right)) h k)
+  both-given scan left right h k = tasks-both (IsGiven store names env) scan left right h k
 
   pub scans-given : (scan : ℕ) (expr : Expr) → HoldEach store env scan (scans_in expr) → IsAccepted (shapes_of env) expr
       → AreGiven (scanned scan (subexpressions expr))

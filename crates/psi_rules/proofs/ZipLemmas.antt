@@ -5,14 +5,14 @@ use Rattle.std.specs.Ordering.{int_eq}
 use Rattle.std.proofs.Common.{refl, ap, sym, subst, inl, inr, ⊎_elim, ◌∙◌, arith}
 use Rattle.std.proofs.lemmas.Bool.{cond-false, cond-true, eqb-false, eqb-true, false≢true, le-ltb, lt-ltb, or_cases}
 use Rattle.std.proofs.lemmas.Bool.Decides.{Decides-int_eq}
-use Rattle.std.proofs.lemmas.Grind.{reverse_onto}
 use Rattle.std.proofs.lemmas.List.{drop_all, get_or-map, length-map, length-take-le, reverse-reverse, take_all, take_more}
 use Rattle.std.proofs.lemmas.List.FromFn.{get_or-range_with_len, length-range_with_len}
 use Rattle.std.proofs.lemmas.List.Recursion.{and_at}
 use Rattle.std.proofs.lemmas.Slice.Eq.{bytes_eq-Decides}
+use Rattle.std.proofs.lemmas.Slice.Zip.{AllZip-long}
 use Rattle.moa_tree.specs.Axes.{but_last, common, naturals, own_index, restored, selected}
 use Rattle.shape_check.specs.Rules.{are_equal, is_permutation, is_scalar}
-use Rattle.psi_rules.proofs.ListLemmas.{zip-append}
+use Rattle.psi_rules.proofs.ListLemmas.{zip-append, zip-reverse}
 
 -- ---- two operands of one shape, or a scalar and another
 
@@ -66,29 +66,14 @@ axis-stands list axis h below =
 but-last-more : (s : List ℕ) → 0 < length s → but_last s ++ slice_index s (length s - 1) ∷ [] ≡ s
 but-last-more s full = sym (take_more s (length s - 1) 0 (omega (arith, full))) ∙ take_all (length s - 1 + 1) s (omega (arith, full))
 
-pub zip-reverse : {X Y : Type 0} (R : X → Y → Type 0) (xs : List X) (ys : List Y) → AllZip R xs ys → AllZip R (reverse xs) (reverse ys)
-zip-reverse R [] [] h = tt
-zip-reverse R [] (y ∷ ys) h = absurd h
-zip-reverse R (x ∷ xs) [] h = absurd h
-zip-reverse R (x ∷ xs) (y ∷ ys) h =
-    let more = zip-append R (reverse xs) (x ∷ []) (reverse ys) (y ∷ []) (zip-reverse R xs ys h.1) (h.0, tt) in
-    subst (AllZip R (reverse (x ∷ xs))) (sym (reverse_onto ys y []))
-    (subst (λ list. AllZip R list (reverse ys ++ y ∷ [])) (sym (reverse_onto xs x [])) more)
-
 module _ {X : Type 0} (P : X → ℕ → Type 0) where
-  zip-long : (items : List X) (shape : List ℕ) → AllZip P items shape → length items ≡ length shape
-  zip-long [] [] h = refl
-  zip-long [] (n ∷ shape) h = absurd h
-  zip-long (item ∷ items) [] h = absurd h
-  zip-long (item ∷ items) (n ∷ shape) h = ap (λ k. suc k) (zip-long items shape h.1)
-
-  zip-at : (items : List X) (shape : List ℕ) (place : ℕ) (other : X) → AllZip P items shape → place < length shape
+  zip-place : (items : List X) (shape : List ℕ) (place : ℕ) (other : X) → AllZip P items shape → place < length shape
       → P (slice_index_or items place other) (slice_index shape place)
-  zip-at [] [] place other h below = absurd (omega (arith, below))
-  zip-at [] (n ∷ shape) place other h below = absurd h
-  zip-at (item ∷ items) [] place other h below = absurd h
-  zip-at (item ∷ items) (n ∷ shape) zero other h below = h.0
-  zip-at (item ∷ items) (n ∷ shape) (suc place) other h below = zip-at items shape place other h.1 (omega (arith, below))
+  zip-place [] [] place other h below = absurd (omega (arith, below))
+  zip-place [] (n ∷ shape) place other h below = absurd h
+  zip-place (item ∷ items) [] place other h below = absurd h
+  zip-place (item ∷ items) (n ∷ shape) zero other h below = h.0
+  zip-place (item ∷ items) (n ∷ shape) (suc place) other h below = zip-place items shape place other h.1 (omega (arith, below))
 
   pub zip-split : (items : List X) (shape others : List ℕ) → AllZip P items (shape ++ others)
       → AllZip P (take (length shape) items) shape × AllZip P (drop (length shape) items) others
@@ -100,7 +85,7 @@ module _ {X : Type 0} (P : X → ℕ → Type 0) where
 
   whole-own : (shape : List ℕ) (items : List X) → AllZip P items shape → AllZip P (own_index shape items) shape
   whole-own shape items h =
-      let none : 0 ≡ length items - length shape = omega (arith, zip-long items shape h) in
+      let none : 0 ≡ length items - length shape = omega (arith, AllZip-long P items shape h) in
       subst (λ n. AllZip P (drop n items) shape) none h
 
   scalar-own : (items : List X) → AllZip P (own_index [] items) []
@@ -146,7 +131,7 @@ module _ {X : Type 0} (P : X → ℕ → Type 0) where
       let many : length chosen ≡ length (naturals list) = length-map (naturals list) (λ a. slice_index shape a) in
       let extent : slice_index chosen place ≡ slice_index shape axis =
       get_or-map (λ a. slice_index shape a) (naturals list) place 0 0 first.0 ∙ ap (λ a. slice_index shape a) first.1 in
-      subst (P (slice_index_or items place other)) extent (zip-at items chosen place other h (omega (arith, first.0, many)))
+      subst (P (slice_index_or items place other)) extent (zip-place items chosen place other h (omega (arith, first.0, many)))
 
   pub permute-zip : (other : X) (list : List ℤ) (shape : List ℕ) → (length list == length shape) ≡ true → is_permutation list ≡ true
       → (items : List X) → AllZip P items (selected (naturals list) shape) → AllZip P (restored other (naturals list) items) shape

@@ -1,8 +1,15 @@
 pub mod Agrees
 pub mod Areas
+pub mod Building
 pub mod Jobs
 pub mod Keeping
+pub mod Loads
 pub mod Operands
+pub mod Places
+pub mod Reduced
+pub mod Rows
 pub mod RuleExamples
 pub mod Rules
+pub mod Scopes
+pub mod Tables
 pub mod Within

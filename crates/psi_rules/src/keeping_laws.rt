@@ -11,7 +11,7 @@ ghost use Rattle.shape_check.specs.Jobs.{TreeJob, jobs};
 ghost use Rattle.shape_check.specs.Judged.{items_in};
 ghost use Rattle.shape_check.specs.Statements.{verdict_of};
 ghost use Rattle.normal_form.specs.Forms.{Normal};
-ghost use Rattle.normal_form.specs.Kept.{IsKept, job_variables};
+ghost use Rattle.normal_form.specs.Kept.{IsFoldJob, IsKept, job_variables};
 ghost use Rattle.psi_rules.specs.Areas.{Given, given};
 ghost use Rattle.psi_rules.specs.Jobs.{forms};
 ghost use Rattle.psi_rules.specs.Keeping.{AreKeptForms, KeepExpressions};
@@ -78,4 +78,20 @@ pub fn forms_keep()
     verdicts_are_shapes();
     lists_are_totals();
     span_laws();
+}
+
+/// In an accepted program that folds by operators that fold, the job of a scan folds by one of
+/// them, along an axis.
+pub fn scans_fold()
+    ensures { (inputs : Lists) (items : List Item) (shapes : Shapes) (number : ℕ)
+        (tree_job : TreeJob) (array : Given)
+        → verdict_of items ≡ Ok shapes → AllByRecursion IsBuiltItem items
+        → slice_get (jobs items) number ≡ Some tree_job
+        → slice_get (given inputs items) number ≡ Some array
+        → IsFoldJob tree_job.job.fold array.shape }
+{
+    operands_move();
+    operands_are_accepted();
+    verdicts_are_shapes();
+    lists_are_totals();
 }

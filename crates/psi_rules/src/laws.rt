@@ -23,8 +23,8 @@ use shape_check::laws::{
     lists_are_totals, operands_are_accepted, places_are_indices, verdicts_are_shapes,
 };
 
-/// The operands of an accepted expression are accepted, and what its rule makes of entries stands for
-/// the places at which its operator takes elements of its operands.
+/// The operands of an accepted expression are accepted, and what its rule makes of entries stands
+/// for the places at which its operator takes elements of its operands.
 pub fn operands_move()
     ensures { (shapes : Shapes) → OperandsMove shapes }
 {
@@ -32,9 +32,9 @@ pub fn operands_move()
     places_are_indices();
 }
 
-/// The rules give what an expression is: over areas that hold the arrays of its scans, and among names
-/// whose forms give their arrays, the form of an accepted expression reaches only what is fine, and
-/// means its value at each index vector.
+/// The rules give what an expression is: over areas that hold the arrays of its scans, and among
+/// names whose forms give their arrays, the form of an accepted expression reaches only what is
+/// fine, and means its value at each index vector.
 pub fn forms_represent()
     ensures { (store : Store) (names : Names) (env : Env) (scan at : ℕ) (expr : Expr)
         → (shape : List ℕ)
@@ -51,9 +51,9 @@ pub fn forms_represent()
     verdicts_are_shapes();
 }
 
-/// Over areas that hold the lists of an accepted program, its inputs, its outputs and what its scans
-/// give, each job has one form: it reaches only what is fine, and means the value of the job's array at
-/// each index vector. A job whose array has no element has none.
+/// Over areas that hold the lists of an accepted program, its inputs, its outputs and what its
+/// scans give, each job has one form: it reaches only what is fine, and means the value of the
+/// job's array at each index vector. A job whose array has no element has none.
 pub fn jobs_give()
     ensures { (inputs : Lists) (items : List Item) (shapes : Shapes)
         → verdict_of items ≡ Ok shapes

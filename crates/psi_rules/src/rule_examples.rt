@@ -1,13 +1,12 @@
 // Forms that are computed: programs with the forms of their jobs.
-ghost use Rattle.std.specs.Prelude.{◌≡◌, ℕ, ℤ, pos, negsuc, codes, List, [], ◌∷◌, ◌++◌};
+ghost use Rattle.std.specs.Prelude.{◌≡◌, pos, negsuc, codes, [], ◌∷◌};
 ghost use Rattle.std.specs.declared.option.Option.TheVariants.{None, Some};
-ghost use Rattle.moa_tree.specs.Expr.{Expr, Item, Number, Use, Iota, One, Two, Psi, Take, Drop, Reverse, Rotate, Transpose, Permute, Cat, Reshape, Ravel, Outer, Inner, Reduce, Scan, Input, Let, Output};
+ghost use Rattle.moa_tree.specs.Expr.{Number, Use, Iota, One, Two, Psi, Take, Drop, Reverse, Rotate, Transpose, Permute, Cat, Reshape, Ravel, Outer, Inner, Reduce, Scan, Let, Output};
 ghost use Rattle.moa_tree.specs.declared.operator.Op.TheVariants as op;
 ghost use Rattle.moa_tree.specs.declared.operator.Unary.TheVariants as unary;
-ghost use Rattle.normal_form.specs.declared.entry.Entry.{Entry as AnEntry};
 ghost use Rattle.normal_form.specs.declared.entry.Entry.TheVariants.{At, Plus, Minus};
 ghost use Rattle.normal_form.specs.declared.term.Bind.TheVariants.{Turn, Flat, Digit};
-ghost use Rattle.normal_form.specs.Forms.{Bin, Case, Fold, Get, Index, Let as Binds, Lit, Normal, Un};
+ghost use Rattle.normal_form.specs.Forms.{Bin, Case, Fold, Index, Let as Binds, Lit, Un};
 ghost use Rattle.normal_form.specs.Moves.{variable};
 ghost use Rattle.psi_rules.specs.Jobs.{forms};
 ghost use Rattle.psi_rules.specs.RuleExamples.{a, b, c, element, in_a, in_b, out_c};
@@ -80,7 +79,8 @@ pub fn views()
         ≡ Some (Bin op.Add (Bin op.Mul (Lit (pos 3)) (element 0 (2 ∷ []) (variable 0 ∷ []))) (element 1 [] [])) ∷ [] }
 {}
 
-/// Reshapes: the offset is an entry, a constant or bound; the entries are none, the offset, constants or bound digits.
+/// Reshapes: the offset is an entry, a constant or bound; the entries are none, the offset,
+/// constants or bound digits.
 pub fn reshapes()
     ensures digits { forms (in_a (pos 3 ∷ pos 4 ∷ []) ∷ out_c (Reshape (pos 3 ∷ pos 4 ∷ []) (Transpose a)) ∷ [])
         ≡ Some (Binds 2 (Flat (variable 0 ∷ variable 1 ∷ []) (3 ∷ 4 ∷ [])) (Binds 3 (Digit (variable 2) 3 4) (Binds 4 (Digit (variable 2) 1 3)
@@ -103,8 +103,8 @@ pub fn reshapes()
         ≡ Some (element 0 (1 ∷ 1 ∷ []) (At (pos 0) ∷ At (pos 0) ∷ [])) ∷ [] }
 {}
 
-/// A name of a `let` is its expression, an output is loaded, and each scan of the text has an area and a job, however often it is used;
-/// the inner one of two comes first.
+/// A name of a `let` is its expression, an output is loaded, and each scan of the text has an area
+/// and a job, however often it is used; the inner one of two comes first.
 pub fn scans()
     ensures used_twice { forms (in_a (pos 4 ∷ []) ∷ Let (codes "P") (Scan op.Add a) ∷ out_c (Two op.Add (Use (codes "P")) (Use (codes "P"))) ∷ [])
         ≡ Some (element 0 (4 ∷ []) (variable 0 ∷ []))

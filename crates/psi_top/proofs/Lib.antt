@@ -5,4 +5,5 @@ pub mod OutcomeLemmas
 pub mod PairLemmas
 pub mod ReportLemmas
 pub mod RunLemmas
+pub mod ShownLemmas
 pub mod WordLemmas

@@ -1,6 +1,8 @@
-use Rattle.std.proofs.Common.{◌≡◌, ℕ, ◌≤◌, List, length, Option, refl, sym, ap, subst, ◌∙◌, arith}
-use Rattle.std.specs.Prelude.{◌≢◌, Err, IsOk}
+-- Words are one command, and what they come to over a source is one outcome.
+use Rattle.std.proofs.Common.{◌≡◌, ℕ, ◌≤◌, ◌⊎◌, inl, inr, List, [], ◌∷◌, ◌++◌, length, reverse, Option, refl, sym, ap, subst, ◌∙◌, arith}
+use Rattle.std.specs.Prelude.{◌≢◌, codes, if◌then◌else◌, slice_index_or, Err, IsOk}
 use Rattle.std.specs.FinMap.{get}
+use Rattle.std.specs.Str.{bytes_eq}
 use Rattle.text_tokens.specs.declared.token.Position.{Position}
 use Rattle.moa_tree.specs.Expr.{Tree}
 use Rattle.moa_tree.specs.Readings.{Reads}
@@ -8,32 +10,47 @@ use Rattle.moa_tree.specs.Refusals.{IsRefused}
 use Rattle.moa_tree.specs.ShapeOf.{Shapes}
 use Rattle.shape_check.specs.Rules.{Failure}
 use Rattle.shape_check.specs.Statements.{verdict_of}
-use Rattle.psi_compile.specs.Errors.{IsFailing, failed_at}
+use Rattle.psi_compile.specs.Errors.{IsCause, IsFailing, IsUnchecked, failed_at}
 use Rattle.psi_compile.specs.FirstForm.{IsFirstForm}
 use Rattle.psi_compile.specs.declared.error.CompileError.{CompileError}
 use Rattle.psi_compile.specs.declared.error.CompileError.TheVariants as error
 use Rattle.psi_edges.specs.Files.{Files}
-use Rattle.psi_top.specs.Command.{IsCommand, IsRun}
+use Rattle.psi_top.specs.Command.{IsCommand, IsRun, words_of}
 use Rattle.psi_top.specs.Line.{exceeded_line, no_memory_line, not_built_line, rule_line, text_line}
-use Rattle.psi_top.specs.Made.{CanMake, IsCauseFor}
+use Rattle.psi_top.specs.Made.{CanMake, IsCauseFor, IsUnbuilt}
 use Rattle.psi_top.specs.Outcome.{IsOutcome, IsSourceOutcome, Outcome, Reached, run_outcome}
 use Rattle.psi_top.specs.Outcome.IsOutcome.{usage, missing, found, runs}
 use Rattle.psi_top.specs.Outcome.IsSourceOutcome.{too_long, refused, not_built, fails, made}
 use Rattle.psi_top.specs.Outcome.Outcome.{Refuses, Makes}
 use Rattle.psi_top.specs.declared.command.Task.{Task}
-use Rattle.psi_top.specs.declared.command.Task.TheVariants.{Check, ShowSource, Compile}
+use Rattle.psi_top.specs.declared.command.Task.TheVariants.{Check, ShowSource, ShowDnf, ShowOnf, Compile}
+
+-- ---- words
+
+-- the task that the word before the file's name tells
+abbrev told : List ℕ → Task
+told word =
+    if bytes_eq word (codes "check") then Check else if bytes_eq word (codes "source") then ShowSource
+    else if bytes_eq word (codes "dnf") then ShowDnf else if bytes_eq word (codes "onf") then ShowOnf else Compile
+
+-- the word of this number from the last
+abbrev from_last : List (List ℕ) → ℕ → List ℕ
+from_last words number = slice_index_or (reverse words) number []
+
+told_back : (task : Task) (name : List ℕ) → (told (from_last (words_of task ++ name ∷ []) 1) ≡ task) × (from_last (words_of task ++ name ∷ []) 0 ≡ name)
+told_back Check name = (refl, refl)
+told_back ShowSource name = (refl, refl)
+told_back ShowDnf name = (refl, refl)
+told_back ShowOnf name = (refl, refl)
+told_back Compile name = (refl, refl)
 
 -- words are one command
 pub same_command : (words : List (List ℕ)) (task another : Task) (name other : List ℕ) → IsCommand words task name → IsCommand words another other → (task ≡ another) × (name ≡ other)
-same_command words Check Check name other a b = let both = sym a.form ∙ b.form in (refl, cc)
-same_command words Check ShowSource name other a b = let both = sym a.form ∙ b.form in absurd (cc)
-same_command words Check Compile name other a b = let both = sym a.form ∙ b.form in absurd (cc)
-same_command words ShowSource Check name other a b = let both = sym a.form ∙ b.form in absurd (cc)
-same_command words ShowSource ShowSource name other a b = let both = sym a.form ∙ b.form in (refl, cc)
-same_command words ShowSource Compile name other a b = let both = sym a.form ∙ b.form in absurd (cc)
-same_command words Compile Check name other a b = let both = sym a.form ∙ b.form in absurd (cc)
-same_command words Compile ShowSource name other a b = let both = sym a.form ∙ b.form in absurd (cc)
-same_command words Compile Compile name other a b = let both = sym a.form ∙ b.form in (refl, cc)
+same_command words task another name other a b =
+    let both = sym a.form ∙ b.form in
+    let one = told_back task name in
+    let two = told_back another other in
+    (sym one.0 ∙ ap (λ list. told (from_last list 1)) both ∙ two.0, sym one.1 ∙ ap (λ list. from_last list 0) both ∙ two.1)
 
 -- words are one run
 pub same_run : (words : List (List ℕ)) (assembly another arrays others : List ℕ) → IsRun words assembly arrays → IsRun words another others → (assembly ≡ another) × (arrays ≡ others)
@@ -43,11 +60,23 @@ same_run words assembly another arrays others a b = let both = sym a.form ∙ b.
 pub not_both : (words : List (List ℕ)) (task : Task) (name assembly arrays : List ℕ) → IsCommand words task name → IsRun words assembly arrays → ⊥
 not_both words Check name assembly arrays a b = let both = sym a.form ∙ b.form in cc
 not_both words ShowSource name assembly arrays a b = let both = sym a.form ∙ b.form in cc
+not_both words ShowDnf name assembly arrays a b = let both = sym a.form ∙ b.form in cc
+not_both words ShowOnf name assembly arrays a b = let both = sym a.form ∙ b.form in cc
 not_both words Compile name assembly arrays a b = let both = sym a.form ∙ b.form in cc
 
 -- so there is one file that they name
 same_found : (words : List (List ℕ)) (files : Files) (task another : Task) (name other : List ℕ) (first again : Option (List ℕ)) → IsCommand words task name → IsCommand words another other → get files name ≡ first → get files other ≡ again → first ≡ again
 same_found words files task another name other first again a b at there = sym at ∙ ap (λ n. get files n) (same_command words task another name other a b).1 ∙ there
+
+-- ---- outcomes of a source
+
+-- what can be made of a program that is not compiled
+accepted : (task : Task) (tree : Tree) → task ≢ Compile → CanMake task tree → IsOk (verdict_of tree.statements)
+accepted Check tree other can = can
+accepted ShowSource tree other can = can
+accepted ShowDnf tree other can = can
+accepted ShowOnf tree other can = can
+accepted Compile tree other can = absurd (other refl)
 
 none_accepted : (failure : Failure) → IsOk {T = Shapes} (Err failure) → ⊥
 none_accepted failure e = cc
@@ -60,9 +89,8 @@ module _ (one_reading : (text : List ℕ) (first second : Tree) → Reads text f
 
   -- a program that fails is not made anything of
   unmade : (task : Task) (source : List ℕ) (tree other : Tree) (failure : Failure) → task ≢ Compile → Reads source tree → Reads source other → verdict_of tree.statements ≡ Err failure → CanMake task other → ⊥
-  unmade Check source tree other failure t read again e can = none_accepted failure (subst IsOk (ap (λ (t : Tree). verdict_of t.statements) (one_reading source other tree again read) ∙ e) can)
-  unmade ShowSource source tree other failure t read again e can = none_accepted failure (subst IsOk (ap (λ (t : Tree). verdict_of t.statements) (one_reading source other tree again read) ∙ e) can)
-  unmade Compile source tree other failure t read again e can = absurd (t refl)
+  unmade task source tree other failure t read again e can =
+      none_accepted failure (subst IsOk (ap (λ (t : Tree). verdict_of t.statements) (one_reading source other tree again read) ∙ e) (accepted task other t can))
 
   -- a source fails in one way
   one_failure : (source : List ℕ) (tree other : Tree) (first second : Failure) → Reads source tree → Reads source other → verdict_of tree.statements ≡ Err first → verdict_of other.statements ≡ Err second → first ≡ second
@@ -125,6 +153,14 @@ module _ (one_reading : (text : List ℕ) (first second : Tree) → Reads text f
       let both : run_outcome files later assembly arrays ≡ run_outcome files later another others = rw (same.0, same.1) refl in
       (ap (λ (reached : Reached). reached.0) both, ap (λ (reached : Reached). reached.1) both)
 
+-- the cause is one of the source, and not that it is of no form that is built, or else the task is to compile it
+cause_for : (task : Task) (source : List ℕ) (error : CompileError) → IsCauseFor task source error → IsCause source error × (((task ≢ Compile) × (IsUnbuilt error → ⊥)) ⊎ ((task ≡ Compile) × IsUnchecked error))
+cause_for Check source error cause = (cause.0, inl ((λ e. cc), cause.1))
+cause_for ShowSource source error cause = (cause.0, inl ((λ e. cc), cause.1))
+cause_for ShowDnf source error cause = (cause.0, inl ((λ e. cc), cause.1))
+cause_for ShowOnf source error cause = (cause.0, inl ((λ e. cc), cause.1))
+cause_for Compile source error cause = (cause.0, inr (refl, cause.1))
+
 -- what a source comes to where a task cannot be done for this reason
 abbrev pub said : List ℕ → CompileError → Outcome
 said name (error.Text at cause) = Refuses 4 (text_line name at cause)
@@ -143,22 +179,14 @@ module _ (task : Task) (name source : List ℕ) (short : length source ≤ 10485
 
   -- each reason is an outcome of the source
   pub reason_said : (reason : CompileError) → reason ≢ error.Memory → IsCauseFor task source reason → IsSourceOutcome task name source (said name reason) (length source)
-  reason_said reason some cause = by_task task refl reason some cause
+  reason_said reason some cause = by_reason reason some (cause_for task source reason cause)
     where
-      by_task : (t : Task) → task ≡ t → (reason : CompileError) → reason ≢ error.Memory → IsCauseFor t source reason → IsSourceOutcome task name source (said name reason) (length source)
-      by_task t is (error.Text at cause) some c = refused short (text_cause t at cause c)
-        where
-          text_cause : (t : Task) (at : Position) (cause : ℕ) → IsCauseFor t source (error.Text at cause) → IsRefused source at cause
-          text_cause Check at cause c = c.0
-          text_cause ShowSource at cause c = c.0
-          text_cause Compile at cause c = c.0
-      by_task Check is (error.Rule at rule) some c = failing_said (error.Rule at rule) (λ e. cc) c.0
-      by_task ShowSource is (error.Rule at rule) some c = failing_said (error.Rule at rule) (λ e. cc) c.0
-      by_task Compile is (error.Rule at rule) some c = absurd c.1
-      by_task Check is (error.Limit at which value) some c = failing_said (error.Limit at which value) (λ e. cc) c.0
-      by_task ShowSource is (error.Limit at which value) some c = failing_said (error.Limit at which value) (λ e. cc) c.0
-      by_task Compile is (error.Limit at which value) some c = absurd c.1
-      by_task Check is (error.NotBuilt at) some c = absurd (c.1 tt)
-      by_task ShowSource is (error.NotBuilt at) some c = absurd (c.1 tt)
-      by_task Compile is (error.NotBuilt at) some c = not_built short is c.0
-      by_task t is error.Memory some c = absurd (some refl)
+      by_reason : (r : CompileError) → r ≢ error.Memory → IsCause source r × (((task ≢ Compile) × (IsUnbuilt r → ⊥)) ⊎ ((task ≡ Compile) × IsUnchecked r)) → IsSourceOutcome task name source (said name r) (length source)
+      by_reason (error.Text at cause) some c = refused short c.0
+      by_reason (error.Rule at rule) some (is, inl other) = failing_said (error.Rule at rule) other.0 is
+      by_reason (error.Rule at rule) some (is, inr compiled) = absurd compiled.1
+      by_reason (error.Limit at which value) some (is, inl other) = failing_said (error.Limit at which value) other.0 is
+      by_reason (error.Limit at which value) some (is, inr compiled) = absurd compiled.1
+      by_reason (error.NotBuilt at) some (is, inl other) = absurd (other.1 tt)
+      by_reason (error.NotBuilt at) some (is, inr compiled) = not_built short compiled.0 is
+      by_reason error.Memory some c = absurd (some refl)

@@ -5,4 +5,5 @@ pub mod Made
 pub mod Outcome
 pub mod Put
 pub mod Report
+pub mod Shown
 pub mod Views

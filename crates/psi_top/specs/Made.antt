@@ -15,19 +15,21 @@ use Rattle.rv_line.specs.Spells.{Spells}
 use Rattle.array_run.specs.Ran.{Prints, ran}
 use Rattle.psi_top.specs.Command.{IsCommand, IsRun}
 use Rattle.psi_top.specs.Report.{report}
+use Rattle.psi_top.specs.Shown.{dnf, onf}
 use Rattle.psi_top.specs.declared.command.Task.{Task}
-use Rattle.psi_top.specs.declared.command.Task.TheVariants.{Check, ShowSource, Compile}
+use Rattle.psi_top.specs.declared.command.Task.TheVariants.{Check, ShowSource, ShowDnf, ShowOnf, Compile}
 
 -- a task can be done for this program
 abbrev pub CanMake : Task → Tree → Type 0
-CanMake Check tree = IsOk (verdict_of tree.statements)
-CanMake ShowSource tree = IsOk (verdict_of tree.statements)
 CanMake Compile tree = IsFirstForm tree.statements
+CanMake _ tree = IsOk (verdict_of tree.statements)
 
--- the text is what a task makes of this program: the report on it, its canonical text, or one that is good for it
+-- the text is what a task makes of this program: the report on it, its canonical text, its forms, or one that is good for it
 abbrev pub IsTextFor : Task → Tree → List ℕ → Type 0
 IsTextFor Check tree text = text ≡ report tree.statements
 IsTextFor ShowSource tree text = text ≡ canonical tree
+IsTextFor ShowDnf tree text = text ≡ dnf tree.statements
+IsTextFor ShowOnf tree text = text ≡ onf tree.statements
 IsTextFor Compile tree text = IsCompiled tree text
 
 -- the text is what a task makes of a source
@@ -55,6 +57,5 @@ IsUnbuilt _ = ⊥
 
 -- why a task cannot be done for a source: what is not compiled is of another form before it is checked
 abbrev pub IsCauseFor : Task → List ℕ → CompileError → Type 0
-IsCauseFor Check source error = IsCause source error × (IsUnbuilt error → ⊥)
-IsCauseFor ShowSource source error = IsCause source error × (IsUnbuilt error → ⊥)
 IsCauseFor Compile source error = IsCause source error × IsUnchecked error
+IsCauseFor _ source error = IsCause source error × (IsUnbuilt error → ⊥)

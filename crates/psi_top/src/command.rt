@@ -1,5 +1,5 @@
 // What the words ask for.
-ghost use Rattle.std.specs.Prelude.{◌≡◌, ◌≢◌, ◌↔◌, ◌<◌, ◌≤◌, ℕ, List, codes, length, map, IsTrue, MatchOption, string_bytes};
+ghost use Rattle.std.specs.Prelude.{◌≡◌, ◌≢◌, ◌↔◌, ◌<◌, ◌≤◌, ◌∷◌, ℕ, List, [], codes, length, map, IsTrue, MatchOption, string_bytes};
 ghost use Rattle.psi_top.specs.Answer.{IsAsked};
 ghost use Rattle.psi_top.specs.Command.{IsCommand, IsMisuse, IsRun, words_of};
 ghost use Rattle.psi_top.specs.declared.command.Task.{Task as AnyTask};
@@ -14,6 +14,10 @@ pub(crate) enum Task {
     Check,
     /// Its canonical text.
     ShowSource,
+    /// The denotational normal forms of its jobs.
+    ShowDnf,
+    /// Their operational normal forms.
+    ShowOnf,
     /// The text that it is compiled to.
     Compile,
 }
@@ -39,10 +43,24 @@ fn is_compile(word: &str) -> bool
     word == "compile"
 }
 
-fn is_show_source(first: &str, second: &str) -> bool
-    ensures { IsTrue result ↔ (first.now ≡ codes "show") × (second.now ≡ codes "source") }
+fn is_show(word: &str) -> bool
+    ensures { IsTrue result ↔ (word.now ≡ codes "show") }
 {
-    first == "show" && second == "source"
+    word == "show"
+}
+
+/// The task that shows what this word says.
+fn task_shown(word: &str) -> Option<Task>
+    ensures { MatchOption result
+        ((task : AnyTask) → codes "show" ∷ word.now ∷ [] ≢ words_of task)
+        (λ task. codes "show" ∷ word.now ∷ [] ≡ words_of task) }
+{
+    match word {
+        "source" => Some(Task::ShowSource),
+        "dnf" => Some(Task::ShowDnf),
+        "onf" => Some(Task::ShowOnf),
+        _ => None,
+    }
 }
 
 /// The task with these words.
@@ -54,9 +72,7 @@ fn task_of(words: &[String]) -> Option<Task>
     match words {
         [word] if is_check(word.as_str()) => Some(Task::Check),
         [word] if is_compile(word.as_str()) => Some(Task::Compile),
-        [first, second] if is_show_source(first.as_str(), second.as_str()) => {
-            Some(Task::ShowSource)
-        }
+        [first, second] if is_show(first.as_str()) => task_shown(second.as_str()),
         _ => None,
     }
 }

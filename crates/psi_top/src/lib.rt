@@ -4,12 +4,14 @@
 mod command;
 mod execute;
 mod fetch;
+mod forms;
 mod laws;
 mod line;
 mod program;
 mod refusal;
 mod report;
 mod run_failure;
+pub mod shown_examples;
 mod start;
 #[cfg(test)]
 mod tests;

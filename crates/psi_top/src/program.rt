@@ -24,6 +24,7 @@ ghost use Rattle.psi_top.specs.declared.command.Task.{Task as AnyTask};
 use crate::command::{Command, Task, command_of};
 use crate::execute::run_of;
 use crate::fetch::fetch;
+use crate::forms::{FormKind, forms_of};
 use crate::laws::{one_outcome, texts_run};
 use crate::refusal::{CANNOT_WRITE_STATUS, Refusal, put_line, refuse};
 use crate::report::report_on;
@@ -60,6 +61,8 @@ fn text_for(alloc: Global, task: Task, source: &[u8]) -> Result<Vec<u8>, Compile
     match task {
         Task::Check => Ok(report_on(alloc, &checked(alloc, source)?)?),
         Task::ShowSource => Ok(print(alloc, checked(alloc, source)?.program())?),
+        Task::ShowDnf => Ok(forms_of(alloc, FormKind::Normal, &checked(alloc, source)?)?),
+        Task::ShowOnf => Ok(forms_of(alloc, FormKind::Operational, &checked(alloc, source)?)?),
         Task::Compile => compile(alloc, source),
     }
 }
@@ -150,18 +153,19 @@ fn publish<K: Sink, E: Sink>(
 }
 
 /// Runs the command that the words give, over a shelf of files, a sink for what is put out and a sink for
-/// what is said of errors, and answers the status:
+/// what is said of errors, and answers the status. The commands are `check FILE`, `show dnf FILE`,
+/// `show onf FILE`, `show source FILE`, `compile FILE` and `run ASM DATA`, with names of at most 4096 bytes.
 ///
 /// | status | comes | line put to `err` |
 /// |---|---|---|
 /// | 0 | the whole text was put to `out` | none |
-/// | 1 | the words are not `check FILE`, `show source FILE`, `compile FILE` or `run ASM DATA`, with names of at most 4096 bytes | `usage: psic check FILE \| show source FILE \| compile FILE \| run ASM DATA` |
+/// | 1 | the words are no command | `usage: psic check FILE \| show dnf\|onf\|source FILE \| compile FILE \| run ASM DATA` |
 /// | 2 | a read of the file failed | `psic: cannot read FILE` |
 /// | 3 | a put failed | `psic: cannot write`, where that was of `out` |
 /// | 4 | the file is no program | `FILE:LINE:COLUMN: text CAUSE: ` and the cause in words |
-/// | 5 | a shape rule is the first to fail in the program, for `check` and `show source` | `FILE:LINE:COLUMN: rule RULE: ` and the rule in words |
+/// | 5 | a shape rule is the first to fail in the program, for `check` and every `show` | `FILE:LINE:COLUMN: rule RULE: ` and the rule in words |
 /// | 6 | the file has more than 1048576 bytes | `FILE: limit 1: longer than 1048576 bytes` |
-/// | 6 | a limit is the first to fail in the program, for `check` and `show source` | `FILE:LINE:COLUMN: limit LIMIT: VALUE exceeds GREATEST`, without a place where it is one of the whole program |
+/// | 6 | a limit is the first to fail in the program, for `check` and every `show` | `FILE:LINE:COLUMN: limit LIMIT: VALUE exceeds GREATEST`, without a place where it is one of the whole program |
 /// | 6 | the assembly text has more than 33554432 bytes, or the array file more than 268435456 | `ASM: limit 8: longer than 33554432 bytes`, `DATA: limit 9: longer than 268435456 bytes` |
 /// | 6 | the block of the assembly text has more than 4194304 words | `ASM: limit 10: VALUE exceeds 4194304` |
 /// | 7 | the array file does not hold the inputs of the assembly text | `DATA:LINE: data CAUSE: ` and the cause in words |

@@ -17,7 +17,8 @@ use text_tokens::Position;
 /// The status where a put failed.
 pub(crate) const CANNOT_WRITE_STATUS: u8 = 3;
 
-const USAGE: &[u8] = b"usage: psic check FILE | show source FILE | compile FILE | run ASM DATA\n";
+const USAGE: &[u8] =
+    b"usage: psic check FILE | show dnf|onf|source FILE | compile FILE | run ASM DATA\n";
 
 const NO_MEMORY: &[u8] = b"psic: no memory\n";
 

@@ -34,7 +34,8 @@ psi_main:
     jalr x0, 0(x1)
 ";
 
-const USAGE: &str = "usage: psic check FILE | show source FILE | compile FILE | run ASM DATA\n";
+const USAGE: &str =
+    "usage: psic check FILE | show dnf|onf|source FILE | compile FILE | run ASM DATA\n";
 
 /// What a call answered and put.
 #[derive(Drop)]
@@ -185,6 +186,41 @@ fn the_least_and_the_greatest_extent_are_compiled(rt: HostRuntime) -> Result<(),
     )
 }
 
+/// A command shows this text of the product of two matrices.
+fn is_shown_of_a_product(
+    rt: &impl Abort,
+    alloc: Global,
+    command: &str,
+    text: &str,
+) -> Result<(), Fail> {
+    let source = "psi 1\nin A 2 2\nin B 2 2\nout C = inner add mul A B\n";
+    let answer = over_source(alloc, command, "p.moa", source.as_bytes())?;
+    assert_eq!(rt; answer.status, 0);
+    assert_eq!(rt; answer.err.len(), 0);
+    assert_eq!(rt; str::from_utf8(&answer.out)?, text);
+    Ok(())
+}
+
+#[test]
+fn denotational_forms_are_shown(rt: HostRuntime) -> Result<(), Fail> {
+    is_shown_of_a_product(
+        &rt,
+        rt.alloc(),
+        "show dnf",
+        "out C <2 2> = fold(add, v2 from 0 to 2, mul(A[v0 v2], B[v2 v1]))\n",
+    )
+}
+
+#[test]
+fn operational_forms_are_shown(rt: HostRuntime) -> Result<(), Fail> {
+    is_shown_of_a_product(
+        &rt,
+        rt.alloc(),
+        "show onf",
+        "out C <2 2> = fold(add, v2 from 0 to 2, mul(A{0; 2*v0 1*v2}, B{0; 1*v1 2*v2}))\n",
+    )
+}
+
 /// Runs an assembly text on an array file.
 fn run(alloc: Global, text: &str, arrays: &str) -> Result<Answer, Fail> {
     let mut shelf = MemoryShelf::new(alloc);
@@ -291,6 +327,8 @@ fn words_that_are_no_command_get_the_usage_line(rt: HostRuntime) -> Result<(), F
             "demo -1",
             "show tree p.moa",
             "show source",
+            "show onf",
+            "show dnf onf p.moa",
             "check",
             "check p.moa q.moa",
             "show p.moa",

@@ -51,6 +51,45 @@ pub(crate) fn repeated(
     Ok(whole)
 }
 
+/// An input, so many names that each stand for `before`, the name before and `after`, and an output.
+pub(crate) fn chain(
+    alloc: Global,
+    input: &str,
+    count: u64,
+    before: &str,
+    twice: bool,
+    output: &str,
+) -> Result<String, Fail> {
+    let mut source = format!(in alloc; "psi 1\n{input}\nlet b0 = A\n")?;
+    for number in 0..count {
+        let next = number + 1;
+        let line = if twice {
+            format!(in alloc; "let b{next} = {before} b{number} b{number}\n")?
+        } else {
+            format!(in alloc; "let b{next} = {before} b{number}\n")?
+        };
+        source.push_str(&line)?;
+    }
+    let last = format!(in alloc; "out C = {output} b{count} A\n")?;
+    source.push_str(&last)?;
+    Ok(source)
+}
+
+/// What a command shows of a source is this text.
+pub(crate) fn is_shown(
+    rt: &impl Abort,
+    alloc: Global,
+    command: &str,
+    source: &str,
+    text: &str,
+) -> Result<(), Fail> {
+    let answer = over_source(alloc, command, source)?;
+    assert_eq!(rt; answer.status, 0, "{source}");
+    assert_eq!(rt; answer.err.len(), 0, "{source}");
+    assert_eq!(rt; str::from_utf8(&answer.out)?, text);
+    Ok(())
+}
+
 /// Each of these commands refuses each source with this status, and says so of it behind the name of the file.
 pub(crate) fn each_is_refused(
     rt: &impl Abort,

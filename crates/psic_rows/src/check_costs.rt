@@ -1,31 +1,6 @@
 // Sources that are small and dear: each is checked in time that grows with its length.
-use crate::calls::over_source;
-use std::alloc::Global;
+use crate::calls::{chain, over_source};
 use std::test::Fail;
-
-/// An input, so many names that each stand for `before`, the name before and `after`, and an output.
-fn chain(
-    alloc: Global,
-    input: &str,
-    count: u64,
-    before: &str,
-    twice: bool,
-    output: &str,
-) -> Result<String, Fail> {
-    let mut source = format!(in alloc; "psi 1\n{input}\nlet b0 = A\n")?;
-    for number in 0..count {
-        let next = number + 1;
-        let line = if twice {
-            format!(in alloc; "let b{next} = {before} b{number} b{number}\n")?
-        } else {
-            format!(in alloc; "let b{next} = {before} b{number}\n")?
-        };
-        source.push_str(&line)?;
-    }
-    let last = format!(in alloc; "out C = {output} b{count} A\n")?;
-    source.push_str(&last)?;
-    Ok(source)
-}
 
 #[test]
 fn names_of_names_are_walked(rt: HostRuntime) -> Result<(), Fail> {

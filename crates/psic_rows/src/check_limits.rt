@@ -7,7 +7,7 @@ fn limits_of_a_shape(rt: HostRuntime) -> Result<(), Fail> {
     each_is_refused(
         &rt,
         rt.alloc(),
-        &["check", "show source"],
+        &["check", "show source", "show dnf", "show onf"],
         6,
         &[
             (
@@ -31,7 +31,7 @@ fn limits_of_a_program(rt: HostRuntime) -> Result<(), Fail> {
     each_is_refused(
         &rt,
         rt.alloc(),
-        &["check", "show source"],
+        &["check", "show source", "show dnf", "show onf"],
         6,
         &[
             (

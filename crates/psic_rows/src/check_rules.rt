@@ -7,7 +7,7 @@ fn names_inputs_and_pointwise_operators(rt: HostRuntime) -> Result<(), Fail> {
     each_is_refused(
         &rt,
         rt.alloc(),
-        &["check", "show source"],
+        &["check", "show source", "show dnf", "show onf"],
         5,
         &[
             (
@@ -39,7 +39,7 @@ fn parts_and_turns(rt: HostRuntime) -> Result<(), Fail> {
     each_is_refused(
         &rt,
         rt.alloc(),
-        &["check", "show source"],
+        &["check", "show source", "show dnf", "show onf"],
         5,
         &[
             (
@@ -83,7 +83,7 @@ fn axes_and_joins(rt: HostRuntime) -> Result<(), Fail> {
     each_is_refused(
         &rt,
         rt.alloc(),
-        &["check", "show source"],
+        &["check", "show source", "show dnf", "show onf"],
         5,
         &[
             (
@@ -123,7 +123,7 @@ fn products_and_folds(rt: HostRuntime) -> Result<(), Fail> {
     each_is_refused(
         &rt,
         rt.alloc(),
-        &["check", "show source"],
+        &["check", "show source", "show dnf", "show onf"],
         5,
         &[
             (

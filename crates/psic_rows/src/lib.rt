@@ -14,6 +14,10 @@ mod check_rules;
 #[cfg(test)]
 mod checked_parts;
 #[cfg(test)]
+mod reduced_forms;
+#[cfg(test)]
+mod shown_forms;
+#[cfg(test)]
 mod shown_sources;
 #[cfg(test)]
 mod text_causes;

@@ -1,23 +1,14 @@
 // Sources of all operators, with their canonical texts, which are shown as they are.
-use crate::calls::{over_source, repeated};
+use crate::calls::{is_shown, over_source, repeated};
 use std::alloc::Global;
 use std::process::Abort;
 use std::test::Fail;
 
-/// The text is shown so.
-fn is_shown(rt: &impl Abort, alloc: Global, text: &str, shown: &str) -> Result<(), Fail> {
-    let answer = over_source(alloc, "show source", text)?;
-    assert_eq!(rt; answer.status, 0, "{text}");
-    assert_eq!(rt; answer.err.len(), 0, "{text}");
-    assert_eq!(rt; str::from_utf8(&answer.out)?, shown);
-    Ok(())
-}
-
 /// Each source, and each text that is shown of one, is shown so.
 fn each_is_shown(rt: &impl Abort, alloc: Global, rows: &[(&str, &str)]) -> Result<(), Fail> {
     for (source, shown) in rows {
-        is_shown(rt, alloc, source, shown)?;
-        is_shown(rt, alloc, shown, shown)?;
+        is_shown(rt, alloc, "show source", source, shown)?;
+        is_shown(rt, alloc, "show source", shown, shown)?;
     }
     Ok(())
 }

@@ -8,7 +8,7 @@ fn tokens_versions_and_statements(rt: HostRuntime) -> Result<(), Fail> {
     each_is_refused(
         &rt,
         rt.alloc(),
-        &["check", "show source", "compile"],
+        &["check", "show source", "show dnf", "show onf", "compile"],
         4,
         &[
             ("psi 1 out C = +", "1:15: text 1: these bytes form no token"),
@@ -32,7 +32,7 @@ fn expressions(rt: HostRuntime) -> Result<(), Fail> {
     each_is_refused(
         &rt,
         rt.alloc(),
-        &["check", "show source", "compile"],
+        &["check", "show source", "show dnf", "show onf", "compile"],
         4,
         &[
             (

@@ -33,8 +33,8 @@ use Rattle.shape_check.specs.Scans.{AddsScans, IsWith, numbered_jobs, scan_size,
 use Rattle.shape_check.specs.Verdict.{and_then, judged, verdict}
 use Rattle.shape_check.proofs.JobLemmas.{follows, jobs-along, shapes-along, sum-along}
 use Rattle.shape_check.proofs.NameLemmas.{names_more}
-use Rattle.shape_check.proofs.NodeLemmas.{NodeTrees, WalksStep, goes-over, walk-first}
-use Rattle.shape_check.proofs.StatementLemmas.{WalksOnce, WalksWithin, position_here, shapes_more, walk_around, walked_later, walked_next}
+use Rattle.shape_check.proofs.NodeLemmas.{NodeTrees, WalksStep, walk-first}
+use Rattle.shape_check.proofs.StatementLemmas.{WalksEach, WalksOnce, WalksWithin, position_here, shapes_more, walk_around, walked_later, walked_next}
 use Rattle.shape_check.proofs.TotalLemmas.{with_both}
 use Rattle.shape_check.proofs.VerdictLemmas.{judged-ok, verdict-shape}
 use Rattle.shape_check.proofs.NodeLemmas.{all-cut}
@@ -109,8 +109,9 @@ sum-reverse f (x ∷ xs) =
     let none : sum_by f [] ≡ 0 = refl in
     omega (arith, a, b, c, none, sum-reverse f xs)
 
-module _ (walks : WalksStep) (over : NodeTrees) (once : WalksOnce) (inside : WalksWithin) (pools : Pools) (program : IsProgram pools) (prices : Prices) (count : ℕ)
-    (s : Statement) (number : ℕ) (within : number < length pools.nodes) (there : slice_get pools.statements count ≡ Some s) (one : nodes_of s ≡ number ∷ []) where
+module _ (walks : WalksStep) (over : NodeTrees) (once : WalksOnce) (inside : WalksWithin) (each : WalksEach) (pools : Pools)
+    (program : IsProgram pools) (prices : Prices) (count : ℕ) (s : Statement) (number : ℕ) (within : number < length pools.nodes)
+    (there : slice_get pools.statements count ≡ Some s) (one : nodes_of s ≡ number ∷ []) where
   abbrev w : List ℕ
   w = walk_of pools.nodes number
 
@@ -129,7 +130,7 @@ module _ (walks : WalksStep) (over : NodeTrees) (once : WalksOnce) (inside : Wal
       (all-cut (λ n. n < length pools.nodes) w later (all-cut (λ n. n < length pools.nodes) (walked pools count) (w ++ later) whole).1).0
 
   goes : map (node_tree pools) w ≡ subexpressions expr
-  goes = goes-over walks over pools program.ordered number within
+  goes = each pools program number within
 
   -- the jobs of its scans
   scan-jobs-here : (first : ℕ) → map (pooled (walk pools)) (reverse (scan_jobs first (length (walked pools count)) (subexpressions expr)))

@@ -1,16 +1,13 @@
 -- A node of a program, its tree and its walk.
-use Rattle.std.proofs.Common.{◌≡◌, ℕ, zero, suc, ◌<◌, ◌≤◌, List, [], ◌∷◌, ◌++◌, refl, ap, sym, ◌∙◌, arith, length, map}
+use Rattle.std.proofs.Common.{◌≡◌, ℕ, zero, suc, ◌<◌, ◌≤◌, List, [], ◌∷◌, ◌++◌, refl, ap, ◌∙◌, arith, length}
 use Rattle.std.specs.Prelude.{ℤ, pos, slice_get, slice_index_or, Some}
 use Rattle.std.specs.List.{AllByRecursion, flat_map}
 use Rattle.std.proofs.lemmas.Grind.{flat_map-append}
-use Rattle.std.proofs.lemmas.List.{append-nil, map-append}
 use Rattle.std.proofs.lemmas.Option.{get_or_from_slice_get, slice_get_within}
 use Rattle.moa_tree.specs.declared.tree.Node.{Node}
 use Rattle.moa_tree.specs.declared.tree.Node.TheVariants as node
-use Rattle.moa_tree.specs.Expr.{Expr}
 use Rattle.moa_tree.specs.Pool.{IsOrdered, expr_of, operands, tree_at, trees, walk_of}
 use Rattle.moa_tree.specs.Pools.{Pools}
-use Rattle.moa_tree.specs.Subexpressions.{subexpressions}
 use Rattle.shape_check.specs.Judged.{node_tree}
 
 -- the walk of a node goes on with the walks of its operands, and its tree is over theirs
@@ -74,59 +71,3 @@ module _ (nodes : List Node) (ordered : IsOrdered nodes) (P : ℕ → Type 0)
 
   pub by-operands : (number : ℕ) → number < length nodes → P number
   by-operands number within = below (length nodes) (omega arith) number within
-
-one : (t : List Expr) (of : ℕ) (whole : Expr)
-    → whole ∷ subexpressions (tree_at t of) ≡ whole ∷ flat_map (λ operand. subexpressions (tree_at t operand)) (of ∷ [])
-one t of whole = ap (λ l. whole ∷ l) (sym (append-nil (subexpressions (tree_at t of))))
-
-two : (t : List Expr) (left right : ℕ) (whole : Expr)
-    → whole ∷ (subexpressions (tree_at t left) ++ subexpressions (tree_at t right))
-    ≡ whole ∷ flat_map (λ operand. subexpressions (tree_at t operand)) (left ∷ right ∷ [])
-two t left right whole =
-    ap (λ l. whole ∷ (subexpressions (tree_at t left) ++ l)) (sym (append-nil (subexpressions (tree_at t right))))
-
--- the expressions in an expression are itself and those in its operands
-expressions-of-node : (pool : List ℤ) (t : List Expr) (n : Node)
-    → subexpressions (expr_of pool t n) ≡ expr_of pool t n ∷ flat_map (λ operand. subexpressions (tree_at t operand)) (operands n)
-expressions-of-node pool t (node.Number value) = refl
-expressions-of-node pool t (node.Use name) = refl
-expressions-of-node pool t (node.Iota extent) = refl
-expressions-of-node pool t (node.One op of) = one t of (expr_of pool t (node.One op of))
-expressions-of-node pool t (node.Two op left right) = two t left right (expr_of pool t (node.Two op left right))
-expressions-of-node pool t (node.Psi list of) = one t of (expr_of pool t (node.Psi list of))
-expressions-of-node pool t (node.Take list of) = one t of (expr_of pool t (node.Take list of))
-expressions-of-node pool t (node.Drop list of) = one t of (expr_of pool t (node.Drop list of))
-expressions-of-node pool t (node.Reverse of) = one t of (expr_of pool t (node.Reverse of))
-expressions-of-node pool t (node.Rotate by of) = one t of (expr_of pool t (node.Rotate by of))
-expressions-of-node pool t (node.Transpose of) = one t of (expr_of pool t (node.Transpose of))
-expressions-of-node pool t (node.Permute list of) = one t of (expr_of pool t (node.Permute list of))
-expressions-of-node pool t (node.Cat left right) = two t left right (expr_of pool t (node.Cat left right))
-expressions-of-node pool t (node.Reshape list of) = one t of (expr_of pool t (node.Reshape list of))
-expressions-of-node pool t (node.Ravel of) = one t of (expr_of pool t (node.Ravel of))
-expressions-of-node pool t (node.Outer op left right) = two t left right (expr_of pool t (node.Outer op left right))
-expressions-of-node pool t (node.Inner fold op left right) = two t left right (expr_of pool t (node.Inner fold op left right))
-expressions-of-node pool t (node.Reduce fold of) = one t of (expr_of pool t (node.Reduce fold of))
-expressions-of-node pool t (node.Scan fold of) = one t of (expr_of pool t (node.Scan fold of))
-
--- the walk of a node goes over the expressions in its tree, in order
-module _ (walks : WalksStep) (over : NodeTrees) (pools : Pools) (ordered : IsOrdered pools.nodes) where
-  abbrev GoesOver : ℕ → Type 0
-  GoesOver number = map (node_tree pools) (walk_of pools.nodes number) ≡ subexpressions (node_tree pools number)
-
-  goes-all : (numbers : List ℕ) → AllByRecursion GoesOver numbers
-      → map (node_tree pools) (flat_map (walk_of pools.nodes) numbers) ≡ flat_map (λ number. subexpressions (node_tree pools number)) numbers
-  goes-all [] h = refl
-  goes-all (number ∷ numbers) h =
-      map-append (node_tree pools) (walk_of pools.nodes number) (flat_map (walk_of pools.nodes) numbers)
-      ∙ ap (λ l. l ++ map (node_tree pools) (flat_map (walk_of pools.nodes) numbers)) h.0
-      ∙ ap (λ l. subexpressions (node_tree pools number) ++ l) (goes-all numbers h.1)
-
-  pub goes-over : (number : ℕ) → number < length pools.nodes → GoesOver number
-  goes-over = by-operands pools.nodes ordered GoesOver (λ number within h.
-      let n = slice_index_or pools.nodes number (node.Iota (pos 0)) in
-      let t = trees pools.numbers pools.nodes in
-      let e = over pools.numbers pools.nodes ordered number (node.Iota (pos 0)) within in
-      ap (map (node_tree pools)) (walks pools.nodes ordered number (node.Iota (pos 0)) within)
-      ∙ ap (λ l. node_tree pools number ∷ l) (goes-all (operands n) h)
-      ∙ ap (λ first. first ∷ flat_map (λ operand. subexpressions (tree_at t operand)) (operands n)) e
-      ∙ sym (expressions-of-node pools.numbers t n) ∙ ap subexpressions (sym e))

@@ -11,7 +11,7 @@ use Rattle.std.proofs.lemmas.Option.{get_or_from_slice_get, slice_get_within, un
 use Rattle.text_tokens.specs.Tokens.{start}
 use Rattle.moa_tree.specs.declared.tree.Statement.{Statement}
 use Rattle.moa_tree.specs.Expr.{Item}
-use Rattle.moa_tree.specs.Pool.{IsOrdered, item_of, trees, walk_of}
+use Rattle.moa_tree.specs.Pool.{item_of, trees, walk_of}
 use Rattle.moa_tree.specs.Pools.{IsProgram, Pools, nodes_of, walk}
 use Rattle.moa_tree.specs.Positions.{position_of}
 use Rattle.moa_tree.specs.ShapeOf.{shape_of}
@@ -23,7 +23,6 @@ use Rattle.shape_check.specs.Judged.{node_tree}
 use Rattle.shape_check.specs.Kept.{shapes_at}
 use Rattle.shape_check.specs.Progress.{Fails, FailsAt, left_of, walked}
 use Rattle.shape_check.specs.Uses.{HasShapes}
-use Rattle.shape_check.proofs.NodeLemmas.{NodeTrees, WalksStep, goes-over}
 
 -- ---- where a statement stands
 
@@ -109,6 +108,11 @@ WalksOnce = (pools : Pools) → IsProgram pools → (number : ℕ) → number < 
 abbrev pub WalksWithin : Type 0
 WalksWithin = (pools : Pools) → IsProgram pools → AllByRecursion (λ number. number < length pools.nodes) (walk pools)
 
+-- the walk of a node goes over the expressions in its tree
+abbrev pub WalksEach : Type 0
+WalksEach = (pools : Pools) → IsProgram pools → (number : ℕ) → number < length pools.nodes
+    → map (node_tree pools) (walk_of pools.nodes number) ≡ subexpressions (node_tree pools number)
+
 module _ (once : WalksOnce) (inside : WalksWithin) (pools : Pools) (program : IsProgram pools) (count : ℕ) (s : Statement) (number : ℕ)
     (there : slice_get pools.statements count ≡ Some s) (one : nodes_of s ≡ number ∷ []) where
   -- the nodes before a statement are none of its own
@@ -133,12 +137,12 @@ each-known f g [] h = tt
 each-known f g (n ∷ w) h = (cc, each-known f g w cc)
 
 -- the table has the shapes of the nodes of an expression
-pub table_known : WalksStep → NodeTrees → (pools : Pools) → IsOrdered pools.nodes → (prices : Prices) (number : ℕ) → number < length pools.nodes → (table : List (List ℕ))
+pub table_known : WalksEach → (pools : Pools) → IsProgram pools → (prices : Prices) (number : ℕ) → number < length pools.nodes → (table : List (List ℕ))
     → shapes_at table (walk_of pools.nodes number) ≡ map (shape_of (shapes_of prices)) (subexpressions (node_tree pools number))
     → HasShapes pools prices table (walk_of pools.nodes number)
-table_known walks over pools ordered prices number within table found =
+table_known each pools program prices number within table found =
     each-known (λ n. slice_index_or table n []) (λ n. shape_of (shapes_of prices) (node_tree pools n)) (walk_of pools.nodes number)
-    (found ∙ ap (map (shape_of (shapes_of prices))) (sym (goes-over walks over pools ordered number within))
+    (found ∙ ap (map (shape_of (shapes_of prices))) (sym (each pools program number within))
     ∙ map-map (shape_of (shapes_of prices)) (node_tree pools) (walk_of pools.nodes number))
   where
     map-map : {A B C : Type 0} (f : B → C) (g : A → B) (xs : List A) → map f (map g xs) ≡ map (λ x. f (g x)) xs

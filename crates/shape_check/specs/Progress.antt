@@ -20,7 +20,7 @@ use Rattle.shape_check.specs.declared.progress.Progress.{Progress}
 use Rattle.shape_check.specs.Costs.{Prices, job_size, job_work, prices_after, shapes_of, size, stored, sum_over, work}
 use Rattle.shape_check.specs.Jobs.{jobs, jobs_from, jobs_of}
 use Rattle.shape_check.specs.Judged.{AreNames, FailsSo, IsAccepted, StandsFor, capped, error_in}
-use Rattle.shape_check.specs.Kept.{IsRefusedSo, pooled, shapes_at}
+use Rattle.shape_check.specs.Kept.{pooled, shapes_at}
 use Rattle.shape_check.specs.Layout.{arrays, gathered, input_of, node_shapes, numbered, output_of, scan_shapes, shape_of_item, statement_shapes}
 use Rattle.shape_check.specs.Rules.{Failure, Place, is_declared}
 use Rattle.shape_check.specs.Scans.{IsWith}

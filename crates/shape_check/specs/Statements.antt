@@ -1,6 +1,6 @@
 -- The verdict on a program: the shape of each statement, or the first rule or limit that fails. Statements come in order, the name of each
 -- before its expression, and the limits of the whole program last. This project's own.
-use Rattle.std.specs.Prelude.{ℕ, suc, ◌+◌, ◌^◌, not, List, [], ◌∷◌, ◌++◌, length, None, Result}
+use Rattle.std.specs.Prelude.{ℕ, suc, ◌+◌, not, List, [], ◌∷◌, ◌++◌, length, None, Result}
 use Rattle.std.specs.List.{list_all}
 use Rattle.moa_tree.specs.Axes.{naturals}
 use Rattle.moa_tree.specs.Expr.{Item, Input, Let, Output}

@@ -1,5 +1,5 @@
 use Rattle.moa_tree.proofs.PoolLemmas.{walk-of-node}
-use Rattle.moa_tree.proofs.WalkLemmas.{walk-expressions, walk-once, walk-within}
+use Rattle.moa_tree.proofs.WalkLemmas.{walk-each, walk-expressions, walk-once, walk-within}
 use Rattle.moa_tree.proofs.tree_laws.walks_in_order.Goals as goal
 
 pub returns-clause-step : goal.returns-clause-step
@@ -13,3 +13,6 @@ returns-clause-within c = walk-within
 
 pub returns-clause-expressions : goal.returns-clause-expressions
 returns-clause-expressions c = walk-expressions
+
+pub returns-clause-each : goal.returns-clause-each
+returns-clause-each c = walk-each

@@ -6,6 +6,16 @@ returns-in_ok-report_on-in-Check-clause-made c =
     let checked = c.in_ok-checked-in-Check.ensures in
     rw c.in-Check.is (record { tree = tree_of c.in_ok-checked-in-Check.field-0.pools; read = checked.read; can = c.in_ok-report_on-in-Check.ensures.accepted; made = c.in_ok-report_on-in-Check.ensures.made })
 
+pub returns-in_ok-forms_of-in-ShowDnf-clause-made : goal.returns-in_ok-forms_of-in-ShowDnf-clause-made
+returns-in_ok-forms_of-in-ShowDnf-clause-made c =
+    let checked = c.in_ok-checked-in-ShowDnf.ensures in
+    rw c.in-ShowDnf.is (record { tree = tree_of c.in_ok-checked-in-ShowDnf.field-0.pools; read = checked.read; can = c.in_ok-forms_of-in-ShowDnf.ensures.accepted; made = c.in_ok-forms_of-in-ShowDnf.ensures.made })
+
+pub returns-in_ok-forms_of-in-ShowOnf-clause-made : goal.returns-in_ok-forms_of-in-ShowOnf-clause-made
+returns-in_ok-forms_of-in-ShowOnf-clause-made c =
+    let checked = c.in_ok-checked-in-ShowOnf.ensures in
+    rw c.in-ShowOnf.is (record { tree = tree_of c.in_ok-checked-in-ShowOnf.field-0.pools; read = checked.read; can = c.in_ok-forms_of-in-ShowOnf.ensures.accepted; made = c.in_ok-forms_of-in-ShowOnf.ensures.made })
+
 pub returns-in_ok-print-in-ShowSource-clause-made : goal.returns-in_ok-print-in-ShowSource-clause-made
 returns-in_ok-print-in-ShowSource-clause-made c =
     let checked = c.in_ok-checked-in-ShowSource.ensures in

@@ -1,6 +1,5 @@
 use Rattle.std.specs.Prelude.{pos}
 use Rattle.moa_tree.specs.declared.tree.Node.TheVariants as node
-use Rattle.shape_check.proofs.WalkLemmas.{walk-trees}
 use Rattle.shape_check.proofs.parts.node_laws.Goals as goal
 
 pub returns-clause-trees : goal.returns-clause-trees
@@ -10,8 +9,4 @@ pub returns-clause-walks : goal.returns-clause-walks
 returns-clause-walks c = λ n there. c.walks_in_order.ensures.step c.args.program.now.nodes c.requires.ordered n (node.Number (pos 0)) there
 
 pub returns-clause-expressions : goal.returns-clause-expressions
-returns-clause-expressions c =
-    let pools = c.args.program.now in
-    walk-trees pools.numbers pools.nodes c.requires.ordered (node.Number (pos 0))
-    (λ n there. c.node_trees.ensures pools.numbers pools.nodes c.requires.ordered n (node.Number (pos 0)) there)
-    (λ n there. c.walks_in_order.ensures.step pools.nodes c.requires.ordered n (node.Number (pos 0)) there)
+returns-clause-expressions c = c.walks_in_order.ensures.each c.args.program.now c.requires

@@ -1,6 +1,6 @@
 use Rattle.std.specs.Prelude.{◌≡◌, ℕ, zero, suc, ◌+◌, ◌-◌, ◌/◌, ◌<◌, pos, ◌-ℤ◌, List, [], ◌∷◌, slice_index_or}
 use Rattle.std.specs.declared.option.Option.TheVariants.{None}
-use Rattle.std.proofs.Common.{refl, sym, ap, subst, arith, mod-lt}
+use Rattle.std.proofs.Common.{refl, sym, ap, subst, arith, inr, mod-lt}
 use Rattle.std.proofs.lemmas.Int.{ints}
 use Rattle.shapes_core.specs.Gamma.{digit}
 use Rattle.moa_tree.specs.declared.tree.Job.{Job}
@@ -72,5 +72,5 @@ same-form shape region at terms one two three four =
     the_form)))
 
 pub new-requires : goal.new-requires
-new-requires c = same-form c.args.shape c.args.region c.args.at c.push-2.new.self.items c.requires.shape c.requires.region c.requires.at
-    (search (arith, c.new-terms.ensures, c.in_ok-push.ensures, c.in_ok-push-2.ensures))
+new-requires c = inr (same-form c.args.shape c.args.region c.args.at c.push-2.new.self.items c.requires.shape c.requires.region c.requires.at
+    (search (arith, c.new-terms.ensures, c.in_ok-push.ensures, c.in_ok-push-2.ensures)))

@@ -1,0 +1,45 @@
+// The terms of the form of an expression.
+ghost use Rattle.std.specs.Prelude.{◌≡◌, ◌<◌, IfOk, length};
+ghost use Rattle.normal_form.specs.Kept.{form_in};
+ghost use Rattle.normal_form.specs.Moves.{variables};
+ghost use Rattle.shape_check.specs.Judged.{node_tree};
+ghost use Rattle.psi_rules.specs.Building.{IsPool};
+ghost use Rattle.psi_rules.specs.Jobs.{job_form};
+ghost use Rattle.psi_rules.specs.Rules.{Names, form, shape_in};
+ghost use Rattle.psi_rules.specs.Tables.{IsReady};
+
+use crate::arms::form_of;
+use crate::moves::variables;
+use crate::places::Place;
+use crate::pool::Pool;
+use crate::tables::Tables;
+use normal_form::Term;
+use shape_check::Checked;
+use shapes_core::{NoMemory, total};
+use std::alloc::Global;
+
+/// The terms of the form of a node of a statement at the index vector of its variables, the top one
+/// last; none where its array has no element.
+pub(crate) fn terms_of(
+    alloc: Global,
+    checked: &Checked,
+    tables: &Tables,
+    place: Place,
+    number: u32,
+) -> Result<Vec<Term>, NoMemory>
+    requires { number < length checked.now.pools.nodes }
+    ensures form { (names : Names) → IsReady checked.now tables.now place.statement names number
+        → IfOk result (λ terms. form_in terms.items ≡ job_form (shape_in names (node_tree checked.now.pools number))
+        (form names place.scan (node_tree checked.now.pools number))) }
+    ensures pool { IfOk result (λ terms. IsPool terms.items) }
+{
+    let shape = checked.shape_of(number);
+    if total(&shape) == 0 {
+        return Ok(Vec::new(alloc));
+    }
+    let axes = shape.extents().len() as u32;
+    let entries = variables(axes)?;
+    let mut pool = Pool::new(alloc, axes);
+    let _top = form_of(checked, tables, place, &mut pool, number, &entries)?;
+    Ok(pool.into_terms())
+}

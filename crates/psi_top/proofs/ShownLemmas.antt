@@ -1,0 +1,68 @@
+-- The lines of jobs, one after another.
+use Rattle.std.proofs.Common.{◌≡◌, ℕ, zero, suc, ◌+◌, ◌≤◌, List, [], ◌∷◌, ◌++◌, length, slice_get, Option, None, Some, refl, sym, ap, ◌∙◌, arith}
+use Rattle.std.proofs.lemmas.List.{length-map, take_all}
+use Rattle.std.proofs.lemmas.Option.{slice_get-map}
+use Rattle.std.proofs.lemmas.Slice.Zip.{length-zip}
+use Rattle.std.specs.List.{zip}
+use Rattle.std.specs.Option.{option_map}
+use Rattle.shapes_core.specs.declared.area.Area.{Area}
+use Rattle.moa_tree.specs.Pools.{walk}
+use Rattle.shape_check.specs.Jobs.{TreeJob, jobs}
+use Rattle.shape_check.specs.Judged.{items_in}
+use Rattle.shape_check.specs.Kept.{Checking, IsChecked, pooled}
+use Rattle.shape_check.specs.Layout.{areas}
+use Rattle.normal_form.specs.Forms.{Normal}
+use Rattle.normal_form.specs.Kept.{Parts, form_in}
+use Rattle.psi_rules.specs.Jobs.{forms}
+use Rattle.psi_rules.specs.Reduced.{IsReduced}
+use Rattle.psi_rules.specs.Scopes.{job_shapes}
+use Rattle.psi_top.proofs.ReportLemmas.{pair-more}
+use Rattle.psi_top.specs.Shown.{formed, shown, shown_first, spelled_all, spelled_as}
+use Rattle.psi_top.specs.declared.forms.FormKind.{FormKind}
+use Rattle.psi_top.specs.declared.forms.FormKind.TheVariants as kind
+
+-- the pair of this number
+pair-at : {X Y : Type 0} (xs : List X) (ys : List Y) (n : ℕ) (x : X) (y : Y)
+    → slice_get xs n ≡ Some x → slice_get ys n ≡ Some y → slice_get (zip xs ys) n ≡ Some (x, y)
+pair-at [] ys n x y p q = absurd (cc)
+pair-at (a ∷ xs) [] n x y p q = absurd (cc)
+pair-at (a ∷ xs) (b ∷ ys) zero x y p q = let one : a ≡ x = cc in let two : b ≡ y = cc in rw (one, two) refl
+pair-at (a ∷ xs) (b ∷ ys) (suc n) x y p q = pair-at xs ys n x y p q
+
+-- what a mapped element comes from
+mapped-from : {X Y : Type 0} (f : X → Y) (o : Option X) (y : Y) → option_map f o ≡ Some y → (x : X) × (o ≡ Some x) × (f x ≡ y)
+mapped-from f None y e = absurd (cc)
+mapped-from f (Some x) y e = (x, refl, cc)
+
+-- a line shows no node of a job
+same-line : (of : FormKind) (among : List Area) (nodes : List ℕ) (tree_job : TreeJob) (shape : List ℕ) (form : Option Normal)
+    → spelled_as of among tree_job.job shape form ≡ spelled_as of among (pooled nodes tree_job) shape form
+same-line kind.Normal among nodes tree_job shape form = refl
+same-line kind.Operational among nodes tree_job shape form = refl
+
+-- the lines before a job, and its own
+pub line-more : (of : FormKind) (checking : Checking) (number : ℕ) (parts : Parts) → IsChecked checking → IsReduced checking number parts
+    → shown_first of (items_in checking.pools) (number + 1)
+    ≡ shown_first of (items_in checking.pools) number ++ spelled_as of (areas (items_in checking.pools)) parts.job parts.shape (form_in parts.terms)
+line-more of checking number parts checked reduced =
+    let items = items_in checking.pools in
+    let nodes = walk checking.pools in
+    let there : option_map (pooled nodes) (slice_get (jobs items) number) ≡ Some parts.job =
+    sym (slice_get-map (pooled nodes) (jobs items) number) ∙ ap (λ list. slice_get list number) (sym checked.jobs_in_order) ∙ reduced.job in
+    let from = mapped-from (pooled nodes) (slice_get (jobs items) number) parts.job there in
+    let form = form_in parts.terms in
+    let others = zip (job_shapes items) (forms items) in
+    let other : slice_get others number ≡ Some (parts.shape, form) =
+    pair-at (job_shapes items) (forms items) number parts.shape form reduced.shape reduced.form in
+    pair-more (λ job. spelled_as of (areas items) job.0.job job.1.0 job.1.1) (jobs items) others number from.0 (parts.shape, form) from.1 other
+    ∙ ap (λ line. shown_first of items number ++ line)
+    (same-line of (areas items) nodes from.0 parts.shape form ∙ ap (λ job. spelled_as of (areas items) job parts.shape form) from.2)
+
+-- those of all jobs
+pub lines-all : (of : FormKind) (checking : Checking) (count : ℕ) → IsChecked checking → length checking.jobs ≤ count
+    → shown_first of (items_in checking.pools) count ≡ shown of (items_in checking.pools)
+lines-all of checking count checked all =
+    let items = items_in checking.pools in
+    let long : length checking.jobs ≡ length (jobs items) = ap length checked.jobs_in_order ∙ length-map (jobs items) (pooled (walk checking.pools)) in
+    let short : length (formed items) ≤ count = omega (arith, long, length-zip (jobs items) (zip (job_shapes items) (forms items)), all) in
+    ap (spelled_all (spelled_as of) items) (take_all count (formed items) short)

@@ -1,0 +1,89 @@
+// The text of a program's forms.
+ghost use Rattle.std.specs.Prelude.{◌≡◌, ◌<◌, ◌+◌, length, IfOk, IsOk, OnOk};
+ghost use Rattle.shape_check.specs.Judged.{items_in};
+ghost use Rattle.shape_check.specs.Statements.{verdict_of};
+ghost use Rattle.normal_form.specs.Kept.{form_in};
+ghost use Rattle.psi_rules.specs.Tables.{AreTables};
+ghost use Rattle.psi_top.specs.Shown.{shown, shown_first, spelled_as};
+
+use form_text::{normal_text, operational_text};
+use normal_form::Normal;
+use psi_rules::{Tables, reduce_among, tables_of};
+use shape_check::{Checked, Layout, layout_of};
+use shapes_core::NoMemory;
+use std::alloc::Global;
+use stride_form::to_operational;
+
+/// Which forms are shown.
+#[derive(Clone, Copy)]
+pub(crate) enum FormKind {
+    /// Each load by its index vector.
+    Normal,
+    /// Each load by a start and strides.
+    Operational,
+}
+
+/// The line of a job with its form.
+fn line_of(
+    alloc: Global,
+    kind: FormKind,
+    normal: &Normal,
+    layout: &Layout,
+) -> Result<Vec<u8>, NoMemory>
+    ensures { IfOk result (λ line. line.items ≡ spelled_as kind layout.now normal.now.job normal.now.shape (form_in normal.now.terms)) }
+{
+    match kind {
+        FormKind::Normal => normal_text(alloc, normal, layout),
+        FormKind::Operational => {
+            let operational = to_operational(alloc, normal)?;
+            operational_text(alloc, &operational, layout)
+        }
+    }
+}
+
+/// Adds the line of the job of this number.
+fn push_form(
+    alloc: Global,
+    kind: FormKind,
+    text: &mut Vec<u8>,
+    checked: &Checked,
+    tables: &Tables,
+    job: u32,
+) -> Result<(), NoMemory>
+    requires tables { AreTables checked.now tables.now }
+    requires job { job < length checked.now.jobs }
+    ensures { OnOk result (text.old.items ≡ shown_first kind (items_in checked.now.pools) job
+        → text.new.items ≡ shown_first kind (items_in checked.now.pools) (job + 1)) }
+{
+    let _program = checked.program();
+    let normal = reduce_among(alloc, checked, tables, job)?;
+    let line = line_of(alloc, kind, &normal, layout_of(checked))?;
+    text.extend_from_slice(&line)?;
+    Ok(())
+}
+
+/// How many jobs a checked program has.
+fn job_count(checked: &Checked) -> Result<u32, NoMemory>
+    ensures { IfOk result (λ count. count ≡ length checked.now.jobs) }
+{
+    u32::try_from(checked.jobs().len()).map_err(|_| NoMemory)
+}
+
+/// The forms of a checked program, a line a job, in order.
+pub(crate) fn forms_of(
+    alloc: Global,
+    kind: FormKind,
+    checked: &Checked,
+) -> Result<Vec<u8>, NoMemory>
+    ensures made { IfOk result (λ text. text.items ≡ shown kind (items_in checked.now.pools)) }
+    ensures accepted { IsOk (verdict_of (items_in checked.now.pools)) }
+{
+    let mut text = Vec::new(alloc);
+    let _program = checked.program();
+    let tables = tables_of(alloc, checked)?;
+    let count = job_count(checked)?;
+    for job in 0..count {
+        push_form(alloc, kind, &mut text, checked, &tables, job)?;
+    }
+    Ok(text)
+}
