@@ -1,0 +1,9 @@
+mod AssignedLemmas
+mod CodeLemmas
+mod DepthLemmas
+mod FitLemmas
+mod GivenLemmas
+mod HomesLemmas
+mod RankLemmas
+mod TreeLemmas
+mod WeightLemmas

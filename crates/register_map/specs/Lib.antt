@@ -1,0 +1,4 @@
+pub mod Assigned
+pub mod Codes
+pub mod Fits
+pub mod Homes

@@ -1,0 +1,14 @@
+// Homes for the registers and places of nests: the machine registers that are free, and spill
+// words. This project's own.
+#![tactic(auto)]
+
+mod assignment;
+mod codes;
+mod home;
+mod marks;
+#[cfg(test)]
+mod tests;
+mod weights;
+
+pub use assignment::assign;
+pub use home::{Home, Homes};
