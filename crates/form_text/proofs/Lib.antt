@@ -1,4 +1,5 @@
 pub mod JoinLemmas
+pub mod LineLemmas
 pub mod NormalLemmas
 pub mod OperationalLemmas
 pub mod PoolLemmas

@@ -23,7 +23,7 @@ fn push_kind(out: &mut Vec<u8>, kind: &AreaKind) -> Result<(), NoMemory>
 }
 
 /// The area of this number.
-fn push_area(out: &mut Vec<u8>, areas: &[Area], area: u32) -> Result<(), NoMemory>
+pub(crate) fn push_area(out: &mut Vec<u8>, areas: &[Area], area: u32) -> Result<(), NoMemory>
     ensures { OnOk result (out.new.items ≡ out.old.items ++ area_text areas.now area) }
 {
     match areas.get(area as usize) {

@@ -1,8 +1,11 @@
 mod AreaLemmas
+mod FitLemmas
 mod JoinLemmas
 mod KeyLemmas
 mod NamedLemmas
 mod NeededLemmas
+mod OrderLemmas
 mod PoolLemmas
 mod RenumberLemmas
+mod StayLemmas
 mod TraceLemmas

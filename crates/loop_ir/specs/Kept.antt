@@ -15,11 +15,12 @@ may_set (Then action rest) = λ key. among (sets action) key || may_set rest key
 may_set (For counter turns body rest) = λ key. is_key key (Register counter) || (may_set body key || may_set rest key)
 may_set (If left below one other rest) = λ key. may_set one key || (may_set other key || may_set rest key)
 
--- no body sets the counter of its loop
+-- no body sets the counter of its loop, and each loop turns less than 2 ^ 63 times, so that a counter fits 64 signed bits
 abbrev pub KeepsCounters : Steps → Type 0
 KeepsCounters End = ⊤
 KeepsCounters (Then action rest) = KeepsCounters rest
-KeepsCounters (For counter turns body rest) = (may_set body (Register counter) ≡ false) × (KeepsCounters body × KeepsCounters rest)
+KeepsCounters (For counter turns body rest) =
+    ((may_set body (Register counter) ≡ false) × (turns < 2 ^ 63)) × (KeepsCounters body × KeepsCounters rest)
 KeepsCounters (If left below one other rest) = KeepsCounters one × (KeepsCounters other × KeepsCounters rest)
 
 -- so is each register and place that steps name

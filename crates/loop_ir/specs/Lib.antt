@@ -1,4 +1,5 @@
 pub mod Costs
+pub mod Fitting
 pub mod Inside
 pub mod Kept
 pub mod Needed

@@ -1,10 +1,14 @@
 // Laws of what nests do and need, as clauses of functions that do nothing.
-ghost use Rattle.std.specs.Prelude.{◌≡◌, ◌+◌, ◌++◌, ℕ, List, true};
+ghost use Rattle.std.specs.Prelude.{◌≡◌, ◌+◌, ◌++◌, ◌<◌, ℕ, List, Some, length, slice_get, true, false};
+ghost use Rattle.std.specs.List.{AllByRecursion, flat_map};
 ghost use Rattle.shapes_core.specs.declared.area.Area.{Area};
 ghost use Rattle.loop_ir.specs.Costs.{Prices, cost, time};
+ghost use Rattle.loop_ir.specs.Fitting.{HoldsFit, SetsFit};
 ghost use Rattle.loop_ir.specs.Inside.{IsDefined};
-ghost use Rattle.loop_ir.specs.Kept.{EachNamed, KeepsCounters};
+ghost use Rattle.loop_ir.specs.declared.step.Step.{Step};
+ghost use Rattle.loop_ir.specs.Kept.{EachNamed, IsNest, KeepsCounters, may_set};
 ghost use Rattle.loop_ir.specs.Needed.{AreAlike, Keys, needed};
+ghost use Rattle.loop_ir.specs.Pool.{inner_lists, steps_of, tree_at, trees_from};
 ghost use Rattle.loop_ir.specs.Running.{Access, Key, State, run};
 ghost use Rattle.loop_ir.specs.Steps.{Steps, joined};
 
@@ -38,4 +42,25 @@ pub fn needed_decides()
 pub fn needed_is_named()
     ensures { (keys : Keys) (steps : Steps) (after : Keys) → EachNamed (λ key. keys key ≡ true) steps
         → ((key : Key) → after key ≡ true → keys key ≡ true) → (key : Key) → needed steps after key ≡ true → keys key ≡ true }
+{}
+
+/// Steps leave alone the registers and places that they may not set.
+pub fn others_stay()
+    ensures { (steps : Steps) (key : Key) (state : State) → may_set steps key ≡ false → (run steps state).held key ≡ state.held key }
+{}
+
+/// Registers and words fit 64 signed bits after steps where they do before them, where each number that is set does, and where
+/// each loop turns less than 2^63 times and keeps its counter.
+pub fn values_fit()
+    ensures { (steps : Steps) (state : State) → KeepsCounters steps → SetsFit steps → HoldsFit state → HoldsFit (run steps state) }
+{
+    moa_tree::values_fit();
+}
+
+/// In a nest the tree of a list is that of its steps over the trees of the lists that they name, which have greater numbers.
+pub fn lists_in_order()
+    ensures trees { (lists : List (List Step)) (number : ℕ) (list : List Step) → IsNest lists → slice_get lists number ≡ Some list
+        → tree_at (trees_from 0 lists) number ≡ steps_of (tree_at (trees_from 0 lists)) list }
+    ensures greater { (lists : List (List Step)) (number : ℕ) (list : List Step) → IsNest lists → slice_get lists number ≡ Some list
+        → AllByRecursion (λ inner. (number < inner) × (inner < length lists)) (flat_map inner_lists list) }
 {}

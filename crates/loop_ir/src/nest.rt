@@ -34,7 +34,8 @@ impl Nest {
 
     /// The number of lists.
     pub fn lists(&self) -> u32
-        ensures { result ≡ length self.now }
+        ensures count { result ≡ length self.now }
+        ensures kept { IsNest self.now }
     {
         self.lists.len() as u32
     }

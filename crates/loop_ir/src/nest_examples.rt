@@ -1,13 +1,14 @@
 // What nests do, need, cost and keep, computed.
-ghost use Rattle.std.specs.Prelude.{◌≡◌, ◌+◌, ◌*◌, pos, negsuc, suc, ℕ, [], ◌∷◌, length, map, true, false};
+ghost use Rattle.std.specs.Prelude.{◌≡◌, ◌+◌, ◌-◌, ◌*◌, ◌^◌, pos, negsuc, suc, ℕ, [], ◌∷◌, length, map, true, false};
 ghost use Rattle.moa_tree.specs.declared.operator.Op.TheVariants as op;
 ghost use Rattle.moa_tree.specs.declared.operator.Unary.TheVariants as unary;
 ghost use Rattle.loop_ir.specs.declared.step.Step.TheVariants as step;
 ghost use Rattle.loop_ir.specs.Costs.{action_cost, choice_cost, cost, loop_cost, time};
+ghost use Rattle.loop_ir.specs.Fitting.{HoldsFit, SetsFit};
 ghost use Rattle.loop_ir.specs.Inside.{IsDefined, IsWordOf};
 ghost use Rattle.loop_ir.specs.Kept.{EachNamed, IsMaking, IsNest, KeepsCounters, may_set};
 ghost use Rattle.loop_ir.specs.Needed.{AreAlike, among, needed, none};
-ghost use Rattle.loop_ir.specs.NestExamples.{matrix_areas, near, numbered, product_keys, product_making, product_nest, product_start, product_tree, element_tree, row_tree, spilled, sum_nest, sum_start, sum_tree, term_tree, vector_areas, weighed};
+ghost use Rattle.loop_ir.specs.NestExamples.{fresh, matrix_areas, near, numbered, product_keys, product_making, product_nest, product_start, product_tree, element_tree, row_tree, spilled, sum_nest, sum_start, sum_tree, term_tree, vector_areas, weighed};
 ghost use Rattle.loop_ir.specs.Pool.{tree, trees, turned};
 ghost use Rattle.loop_ir.specs.Running.{Key, Pointer, Reads, Register, Writes, acted, holding, repeated, run};
 ghost use Rattle.loop_ir.specs.Steps.{Copy, End, For, If, One, Place, Read, Set, Spot, Then, Two, Walk, Write};
@@ -190,10 +191,13 @@ pub fn costs()
 {}
 
 /// A counter is set by its loop alone, and not in its body by a step, an inner loop or a choice.
-/// It may be set behind its loop, and the place of that number within it.
+/// It may be set behind its loop, and the place of that number within it. A loop turns less than
+/// 2^63 times.
 pub fn counters_are_kept()
     ensures kept { KeepsCounters (For 0 3 (Then (Set 1 (pos 7)) (Then (Place 0 (pos 4)) End)) (Then (Set 0 (pos 7)) End)) }
     ensures product { KeepsCounters product_tree }
+    ensures most_turns { KeepsCounters (For 0 (2 ^ 63 - 1) (Then (Set 1 (pos 7)) End) End) }
+    ensures one_turn_more { KeepsCounters (For 0 (2 ^ 63) (Then (Set 1 (pos 7)) End) End) → ⊥ }
     ensures body { KeepsCounters (For 0 3 (Then (Set 1 (pos 7)) (Then (Set 0 (pos 7)) End)) End) → ⊥ }
     ensures inner_counter { KeepsCounters (For 0 3 (For 0 2 End End) End) → ⊥ }
     ensures inner_body { KeepsCounters (For 0 3 (For 1 2 (Then (Set 0 (pos 7)) End) End) End) → ⊥ }
@@ -207,6 +211,27 @@ pub fn counters_are_kept()
     ensures loop_in_first { KeepsCounters (If 1 (pos 5) (For 0 3 (Then (Set 0 (pos 7)) End) End) End End) → ⊥ }
     ensures loop_in_second { KeepsCounters (If 1 (pos 5) End (For 0 3 (Then (Set 0 (pos 7)) End) End) End) → ⊥ }
     ensures loop_behind_choice { KeepsCounters (If 1 (pos 5) End End (For 0 3 (Then (Set 0 (pos 7)) End) End)) → ⊥ }
+{}
+
+/// What fits lies from -2^63 on and below 2^63. Each number to which a register is set has to, in a
+/// body and in either list of a choice too, and so has each that a register or a word holds. Places,
+/// and what a register is compared with, are free.
+pub fn numbers_fit()
+    ensures least { SetsFit (Then (Set 1 (negsuc (2 ^ 63 - 1))) End) }
+    ensures most { SetsFit (Then (Set 1 (pos (2 ^ 63 - 1))) End) }
+    ensures one_less { SetsFit (Then (Set 1 (negsuc (2 ^ 63))) End) → ⊥ }
+    ensures one_more { SetsFit (Then (Set 1 (pos (2 ^ 63))) End) → ⊥ }
+    ensures free { SetsFit (Then (Place 1 (pos (2 ^ 63))) (Then (Spot 1 (pos (2 ^ 63)) 2) (Then (Walk 1 (pos (2 ^ 63)))
+        (If 1 (pos (2 ^ 63)) End End End)))) }
+    ensures behind { SetsFit (Then (Copy 1 2) (Then (Set 1 (pos (2 ^ 63))) End)) → ⊥ }
+    ensures body { SetsFit (For 0 3 (Then (Set 1 (pos (2 ^ 63))) End) End) → ⊥ }
+    ensures behind_loop { SetsFit (For 0 3 End (Then (Set 1 (pos (2 ^ 63))) End)) → ⊥ }
+    ensures first_list { SetsFit (If 0 (pos 4) (Then (Set 1 (pos (2 ^ 63))) End) End End) → ⊥ }
+    ensures second_list { SetsFit (If 0 (pos 4) End (Then (Set 1 (pos (2 ^ 63))) End) End) → ⊥ }
+    ensures behind_choice { SetsFit (If 0 (pos 4) End End (Then (Set 1 (pos (2 ^ 63))) End)) → ⊥ }
+    ensures state { HoldsFit (holding (Pointer 1) (pos (2 ^ 63)) (fresh (pos 5 ∷ negsuc (2 ^ 63 - 1) ∷ []))) }
+    ensures word { HoldsFit (fresh (pos 5 ∷ pos (2 ^ 63) ∷ [])) → ⊥ }
+    ensures register { HoldsFit (holding (Register 1) (pos (2 ^ 63)) (fresh [])) → ⊥ }
 {}
 
 /// A list stands for the tree of its steps, in their order, and a list that is not there for no

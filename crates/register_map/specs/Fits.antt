@@ -4,7 +4,7 @@ use Rattle.std.specs.Prelude.{◌≡◌, ℕ, ◌≤◌, nat_lt, ◌||◌, true,
 use Rattle.std.specs.List.{count_by}
 use Rattle.loop_ir.specs.Kept.{EachNamed}
 use Rattle.loop_ir.specs.Needed.{Keys, among, needed, none, sets}
-use Rattle.loop_ir.specs.Running.{Key, Register, Pointer, is_key}
+use Rattle.loop_ir.specs.Running.{Key, Register, is_key}
 use Rattle.loop_ir.specs.Steps.{Steps, End, Then, For, If}
 use Rattle.register_map.specs.declared.home.Home.{Home}
 use Rattle.register_map.specs.declared.home.Home.TheVariants as home

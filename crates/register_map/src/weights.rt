@@ -20,9 +20,8 @@ pub(crate) fn weights_of(alloc: Global, nest: &Nest) -> Result<BTreeMap<u64, u64
     ensures { IfOk result (λ weights. (code : ℕ) → has_weight weights.entries code ≡ is_among (codes_of (tree nest.now)) code) }
 {
     let mut weights = BTreeMap::new(alloc);
-    if nest.lists() > 0 {
-        weigh_list(nest, 0, 1, &mut weights)?;
-    }
+    prove!(nest.lists() > 0);
+    weigh_list(nest, 0, 1, &mut weights)?;
     Ok(weights)
 }
 
