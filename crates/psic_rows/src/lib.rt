@@ -2,6 +2,8 @@
 #![tactic(auto)]
 
 #[cfg(test)]
+mod built_nests;
+#[cfg(test)]
 mod calls;
 #[cfg(test)]
 mod check_costs;
