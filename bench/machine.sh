@@ -8,11 +8,11 @@ kit=$(dirname "$(rt doc)")
 work=$(mktemp -d)
 trap 'rm -rf "$work"' EXIT
 mkdir -p "$work/crates/machine_bench/src"
-for crate in shapes_core rv_line rv_steps rv_machine vector_sum; do
+for crate in shapes_core rv_line rv_steps rv_reader rv_machine; do
     cp -r "$top/crates/$crate" "$work/crates/"
     grep "^$crate:" "$top/crates.txt" >>"$work/crates.txt"
 done
-echo 'machine_bench: shapes_core rv_line rv_machine vector_sum anyhow' >>"$work/crates.txt"
+echo 'machine_bench: shapes_core rv_line rv_reader rv_machine anyhow' >>"$work/crates.txt"
 cp "$top/bench/machine/main.txt" "$work/crates/machine_bench/src/main.rt"
 if ! (cd "$work/crates/machine_bench" && rt run) >"$work/log" 2>&1; then
     cat "$work/log"

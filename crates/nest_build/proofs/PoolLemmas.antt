@@ -4,7 +4,7 @@ use Rattle.std.specs.List.{AllByRecursion}
 use Rattle.std.proofs.Common.{refl, ap, sym, ◌∙◌, subst, arith, length-append}
 use Rattle.std.proofs.Math.Seq.{get_or-append_seam}
 use Rattle.std.proofs.lemmas.List.{get_or_append_left}
-use Rattle.normal_form.specs.Forms.{Lit, Index, Get, Un, Bin, Case, Fold, Let}
+use Rattle.normal_form.specs.Forms.{Lit, Un, Bin, Case, Fold, Let}
 use Rattle.stride_form.specs.declared.op_term.OpTerm.{OpTerm}
 use Rattle.stride_form.specs.declared.op_term.OpTerm.TheVariants as term
 use Rattle.stride_form.specs.Kept.{AreOpOrdered}

@@ -24,7 +24,7 @@ use Rattle.nest_build.proofs.ValueLemmas.{CountsTo, Within}
 
 -- ---- small numbers
 
-abbrev AreSmall : List ℕ → Type 0
+abbrev pub AreSmall : List ℕ → Type 0
 AreSmall shape = AllByRecursion (λ n. n ≤ greatest_extent) shape
 
 small-each : (shape : List ℕ) → list_all (λ extent. nat_le extent greatest_extent) shape ≡ true → AreSmall shape
@@ -33,7 +33,7 @@ small-each (n ∷ shape) h =
     let parts = and_parts (nat_le n greatest_extent) (list_all (λ extent. nat_le extent greatest_extent) shape) h in
     (leb-true n greatest_extent parts.0, small-each shape parts.1)
 
-extents-small : (shape : List ℕ) → IsShape shape → AreSmall shape
+pub extents-small : (shape : List ℕ) → IsShape shape → AreSmall shape
 extents-small shape h =
     let small = (and_parts (nat_le (length shape) most_axes) (are_small shape) h).1 in
     small-each shape (and_parts (list_all (λ extent. nat_le extent greatest_extent) shape) (nat_le (span shape) greatest_extent) small).0

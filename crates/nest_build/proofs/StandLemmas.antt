@@ -1,5 +1,5 @@
 -- Steps in the making: what is put behind them, and their trees where lists are added.
-use Rattle.std.specs.Prelude.{◌≡◌, ℕ, ℤ, pos, suc, ◌+◌, ◌-ℤ◌, ◌-◌, ◌<◌, List, [], ◌∷◌, ◌++◌, length, map}
+use Rattle.std.specs.Prelude.{◌≡◌, ℕ, pos, ◌+◌, ◌-ℤ◌, ◌-◌, ◌<◌, List, [], ◌∷◌, ◌++◌, length}
 use Rattle.std.specs.List.{AllByRecursion, flat_map}
 use Rattle.std.proofs.Common.{refl, ap, sym, ◌∙◌, subst, arith, length-append}
 use Rattle.std.proofs.Math.Seq.{get_or-append_seam}
@@ -8,10 +8,10 @@ use Rattle.loop_ir.specs.declared.step.Step.{Step}
 use Rattle.loop_ir.specs.declared.step.Step.TheVariants as step
 use Rattle.loop_ir.specs.Pool.{inner_lists, steps_of, tree_at, trees, trees_after}
 use Rattle.loop_ir.specs.Steps.{Action, Set, Copy, One, Two, Place, Spot, Walk, Read, Write, Steps, End, Then, For, If, joined}
-use Rattle.nest_build.specs.Coding.{plain, step_of}
+use Rattle.nest_build.specs.Coding.{plain}
 use Rattle.nest_build.specs.Nests.{Spot as ASpot, inner_loops, listed, walks}
 use Rattle.nest_build.specs.Parts.{Loop}
-use Rattle.nest_build.specs.Standing.{AreNamed, Stands, tree_in}
+use Rattle.nest_build.specs.Standing.{Stands, tree_in}
 
 -- ---- plain steps
 

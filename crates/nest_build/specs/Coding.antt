@@ -1,5 +1,5 @@
 -- What the code's own values stand for: axes, places and steps. This project's own.
-use Rattle.std.specs.Prelude.{ℕ, suc, ◌+◌, ℤ, pos, ◌+ℤ◌, List, [], ◌∷◌, map}
+use Rattle.std.specs.Prelude.{ℕ, suc, ℤ, pos, ◌+ℤ◌, List, [], ◌∷◌, map}
 use Rattle.shapes_core.specs.declared.area.Area.{Area}
 use Rattle.shapes_core.specs.Shape.{total}
 use Rattle.stride_form.specs.declared.access.Access.{Access}

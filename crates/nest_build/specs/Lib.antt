@@ -1,3 +1,4 @@
+pub mod Bounds
 pub mod Coding
 pub mod Gives
 pub mod Makes

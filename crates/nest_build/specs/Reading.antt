@@ -1,5 +1,5 @@
 -- What the code reads of a form: the top of a term. This project's own.
-use Rattle.std.specs.Prelude.{◌≡◌, ℕ, suc, ◌<◌, List, [], ⊤}
+use Rattle.std.specs.Prelude.{◌≡◌, ℕ, ◌<◌, List, ⊤}
 use Rattle.normal_form.specs.Forms.{Lit, Index, Get, Un, Bin, Case, Fold, Let}
 use Rattle.stride_form.specs.declared.access.Access.{Access}
 use Rattle.stride_form.specs.declared.op_term.OpTerm.{OpTerm}

@@ -1,5 +1,5 @@
 // The nest of a job.
-ghost use Rattle.std.specs.Prelude.{◌≡◌, ◌++◌, ◌∷◌, [], ◌+◌, ◌<◌, IfOk, List, None, Some, length, map, true};
+ghost use Rattle.std.specs.Prelude.{◌≡◌, ◌++◌, ◌∷◌, [], ◌+◌, ◌<◌, IfOk, List, None, Some, length, map};
 ghost use Rattle.shapes_core.specs.Shape.{IsShape};
 ghost use Rattle.normal_form.specs.Kept.{IsBox};
 ghost use Rattle.stride_form.specs.Kept.{AreOpOrdered, op_form_in};
@@ -10,7 +10,7 @@ ghost use Rattle.loop_ir.specs.Pool.{tree};
 ghost use Rattle.loop_ir.specs.Steps.{End, Place, Write};
 ghost use Rattle.nest_build.specs.Coding.{loops_of, plain, spots_of};
 ghost use Rattle.nest_build.specs.Nests.{made_of, nest_of, own_access, sets_from, spots_from};
-ghost use Rattle.nest_build.specs.Parts.{Loop, accesses, is_straight, literals, loops_from, low_of, values_of};
+ghost use Rattle.nest_build.specs.Parts.{Loop, accesses, literals, loops_from, low_of, values_of};
 ghost use Rattle.nest_build.specs.Standing.{AreNamed, Stands, tree_in};
 
 use crate::axes::{Axis, push_axes};
@@ -28,14 +28,13 @@ use stride_form::Operational;
 
 /// The nest of an output's job, in a block with this layout: a loop for each axis of the region that has more than one
 /// place, and a place for each access, which walks along its area by its strides. The nest of an empty form does nothing.
-/// After the starts, strides and loop counts of Mullin and Thibault (1994).
+/// That of a straight form gives the form's values (`laws::nests_give`). After the starts, strides and loop counts of Mullin
+/// and Thibault (1994).
 ///
 /// # Errors
 /// `NoMemory` where memory is wanted and cannot be had, or where a number leaves 64 bits, or that of a register, a place
 /// or a list 32.
 pub fn build(alloc: Global, form: &Operational, layout: &Layout) -> Result<Nest, NoMemory>
-    requires straight { (tree : OpForm) → op_form_in form.now.terms ≡ Some tree → is_straight tree ≡ true }
-    requires output { form.now.job.fold ≡ None }
     ensures straight { (form_tree : OpForm) → op_form_in form.now.terms ≡ Some form_tree
         → IfOk result (λ nest. tree nest ≡ nest_of layout.now form.now.job.area form.now.shape form.now.region form_tree) }
     ensures empty { op_form_in form.now.terms ≡ None → IfOk result (λ nest. tree nest ≡ End) }

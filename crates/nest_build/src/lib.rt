@@ -3,6 +3,7 @@
 #![tactic(auto)]
 
 mod axes;
+pub mod bound_laws;
 mod building;
 pub mod laws;
 pub mod nest_examples;

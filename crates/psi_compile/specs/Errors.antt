@@ -13,7 +13,8 @@ use Rattle.shape_check.specs.declared.error.CheckError.{CheckError}
 use Rattle.shape_check.specs.declared.error.CheckError.TheVariants as check
 use Rattle.shape_check.specs.Rules.{Failure, Place}
 use Rattle.shape_check.specs.Statements.{verdict_of}
-use Rattle.psi_compile.specs.FirstForm.{IsNotBuilt}
+use Rattle.nest_jobs.specs.Plain.{ArePlain}
+use Rattle.psi_compile.specs.Built.{IsNotBuilt}
 use Rattle.psi_compile.specs.declared.error.CompileError.{CompileError}
 use Rattle.psi_compile.specs.declared.error.CompileError.TheVariants as compile
 
@@ -46,7 +47,7 @@ pub record IsFailing (text : List ℕ) (error : CompileError) : Type 0 where
   pub fails : verdict_of tree.statements ≡ Err failure
   pub answered : error ≡ failed_at text failure
 
--- each error has its cause: the text is refused, or the program that it reads as is, or is of another form; want of memory needs none
+-- each error has its cause: the text is refused, or the program that it reads as is, or has an expression that is not built; want of memory needs none
 abbrev pub IsCause : List ℕ → CompileError → Type 0
 IsCause text (compile.Text at cause) = IsRefused text at cause
 IsCause text (compile.Rule at rule) = IsFailing text (compile.Rule at rule)
@@ -54,8 +55,8 @@ IsCause text (compile.Limit at which value) = IsFailing text (compile.Limit at w
 IsCause text (compile.NotBuilt at) = IsNotBuilt text at
 IsCause text compile.Memory = ⊤
 
--- no shape rule and no limit has been tried
-abbrev pub IsUnchecked : CompileError → Type 0
-IsUnchecked (compile.Rule at rule) = ⊥
-IsUnchecked (compile.Limit at which value) = ⊥
-IsUnchecked _ = ⊤
+-- where a shape rule or a limit is the cause, each expression of the program is built: that is asked first
+abbrev pub IsBuiltFirst : List ℕ → CompileError → Type 0
+IsBuiltFirst text (compile.Rule at rule) = (tree : Tree) → Reads text tree → ArePlain tree.statements
+IsBuiltFirst text (compile.Limit at which value) = (tree : Tree) → Reads text tree → ArePlain tree.statements
+IsBuiltFirst text _ = ⊤

@@ -1,5 +1,7 @@
+pub mod Assembled
+pub mod Assigned
+pub mod Built
 pub mod Compiled
 pub mod Demands
 pub mod Errors
-pub mod FirstForm
-pub mod Nodes
+pub mod Unbuilt

@@ -1,12 +1,18 @@
 // Compiles a source: the text that is good for the program that the source reads as.
 #![tactic(auto)]
 
+mod built;
 mod compiler;
 pub mod demand_examples;
 mod error;
-mod form;
 pub mod laws;
-mod parts;
+pub mod nest_laws;
+mod nests;
+pub mod serve_laws;
+#[cfg(test)]
+mod tests;
 
+pub use built::built_program;
 pub use compiler::compile;
 pub use error::CompileError;
+pub use nests::nests_of;

@@ -1,5 +1,5 @@
 -- The lines of jobs, one after another.
-use Rattle.std.proofs.Common.{◌≡◌, ℕ, zero, suc, ◌+◌, ◌≤◌, List, [], ◌∷◌, ◌++◌, length, slice_get, Option, None, Some, refl, sym, ap, ◌∙◌, arith}
+use Rattle.std.proofs.Common.{◌≡◌, ℕ, zero, suc, ◌+◌, ◌≤◌, List, [], ◌∷◌, ◌++◌, length, map, min, slice_get, Option, None, Some, refl, sym, ap, ◌∙◌, arith}
 use Rattle.std.proofs.lemmas.List.{length-map, take_all}
 use Rattle.std.proofs.lemmas.Option.{slice_get-map}
 use Rattle.std.proofs.lemmas.Slice.Zip.{length-zip}
@@ -17,7 +17,12 @@ use Rattle.psi_rules.specs.Jobs.{forms}
 use Rattle.psi_rules.specs.Reduced.{IsReduced}
 use Rattle.psi_rules.specs.Scopes.{job_shapes}
 use Rattle.psi_top.proofs.ReportLemmas.{pair-more}
-use Rattle.psi_top.specs.Shown.{formed, shown, shown_first, spelled_all, spelled_as}
+use Rattle.form_text.specs.NestSpelling.{nest_lines}
+use Rattle.loop_ir.specs.Pool.{tree}
+use Rattle.loop_ir.specs.declared.step.Step.{Step}
+use Rattle.moa_tree.specs.declared.tree.Job.{Job}
+use Rattle.nest_jobs.specs.Leads.{nests}
+use Rattle.psi_top.specs.Shown.{formed, nest, nest_first, nest_rows, shown, shown_first, spelled_all, spelled_as}
 use Rattle.psi_top.specs.declared.forms.FormKind.{FormKind}
 use Rattle.psi_top.specs.declared.forms.FormKind.TheVariants as kind
 
@@ -66,3 +71,33 @@ lines-all of checking count checked all =
     let long : length checking.jobs ≡ length (jobs items) = ap length checked.jobs_in_order ∙ length-map (jobs items) (pooled (walk checking.pools)) in
     let short : length (formed items) ≤ count = omega (arith, long, length-zip (jobs items) (zip (job_shapes items) (forms items)), all) in
     ap (spelled_all (spelled_as of) items) (take_all count (formed items) short)
+
+-- ---- nests
+
+-- the lines of the nests before a job, and those of its own
+pub nest-more : (checking : Checking) (number : ℕ) (job : Job) (made : List (List (List Step))) (nest : List (List Step)) → IsChecked checking
+    → slice_get checking.jobs number ≡ Some job → map tree made ≡ nests (items_in checking.pools) → slice_get made number ≡ Some nest
+    → nest_first (items_in checking.pools) (number + 1)
+    ≡ nest_first (items_in checking.pools) number ++ nest_lines (areas (items_in checking.pools)) job (tree nest)
+nest-more checking number job made nest checked there all at =
+    let items = items_in checking.pools in
+    let nodes = walk checking.pools in
+    let one : option_map (pooled nodes) (slice_get (jobs items) number) ≡ Some job =
+    sym (slice_get-map (pooled nodes) (jobs items) number) ∙ ap (λ list. slice_get list number) (sym checked.jobs_in_order) ∙ there in
+    let from = mapped-from (pooled nodes) (slice_get (jobs items) number) job one in
+    let other : slice_get (nests items) number ≡ Some (tree nest) =
+    ap (λ list. slice_get list number) (sym all) ∙ slice_get-map tree made number ∙ ap (option_map tree) at in
+    pair-more (λ job. nest_lines (areas items) job.0.job job.1) (jobs items) (nests items) number from.0 (tree nest) from.1 other
+    ∙ ap (λ (job : Job). nest_first items number ++ nest_lines (areas items) job (tree nest)) from.2
+
+-- the lines of as many nests as there are of jobs and of nests are those of all
+pub nests-all : (checking : Checking) (count : ℕ) (made : List (List (List Step))) → IsChecked checking
+    → map tree made ≡ nests (items_in checking.pools) → min (length checking.jobs) (length made) ≤ count
+    → nest_first (items_in checking.pools) count ≡ nest (items_in checking.pools)
+nests-all checking count made checked all enough =
+    let items = items_in checking.pools in
+    let some = length-zip (jobs items) (nests items) in
+    let jobs_there : length checking.jobs ≡ length (jobs items) = ap length checked.jobs_in_order ∙ length-map (jobs items) (pooled (walk checking.pools)) in
+    let nests_there : length made ≡ length (nests items) = sym (length-map made tree) ∙ ap length all in
+    let enough_pairs : length (zip (jobs items) (nests items)) ≤ count = grind (arith, enough, jobs_there, nests_there, some) in
+    ap (nest_rows (areas items)) (take_all count (zip (jobs items) (nests items)) enough_pairs)

@@ -1,7 +1,7 @@
 -- What words ask for.
 use Rattle.std.specs.Prelude.{ℕ, ◌≡◌, ◌≤◌, List, [], ◌∷◌, ◌++◌, length, codes}
 use Rattle.psi_top.specs.declared.command.Task.{Task}
-use Rattle.psi_top.specs.declared.command.Task.TheVariants.{Check, ShowSource, ShowDnf, ShowOnf, Compile}
+use Rattle.psi_top.specs.declared.command.Task.TheVariants.{Check, ShowSource, ShowDnf, ShowOnf, ShowNest, Compile}
 
 -- the words with which a command on a source begins
 abbrev pub words_of : Task → List (List ℕ)
@@ -9,6 +9,7 @@ words_of Check = codes "check" ∷ []
 words_of ShowSource = codes "show" ∷ codes "source" ∷ []
 words_of ShowDnf = codes "show" ∷ codes "dnf" ∷ []
 words_of ShowOnf = codes "show" ∷ codes "onf" ∷ []
+words_of ShowNest = codes "show" ∷ codes "nest" ∷ []
 words_of Compile = codes "compile" ∷ []
 
 -- the words are those of this task and the name of a file, of at most 4096 bytes

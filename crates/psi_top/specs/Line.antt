@@ -5,7 +5,7 @@ use Rattle.text_tokens.specs.declared.token.Position.{Position}
 use Rattle.shape_check.specs.Rules.{greatest}
 
 abbrev pub usage_line : List ℕ
-usage_line = codes "usage: psic check FILE | show dnf|onf|source FILE | compile FILE | run ASM DATA\n"
+usage_line = codes "usage: psic check FILE | show dnf|onf|nest|source FILE | compile FILE | run ASM DATA\n"
 
 abbrev pub cannot_read_line : List ℕ → List ℕ
 cannot_read_line name = codes "psic: cannot read " ++ name ++ codes "\n"

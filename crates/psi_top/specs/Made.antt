@@ -1,35 +1,42 @@
 -- Which text is made of a source.
-use Rattle.std.specs.Prelude.{ℕ, ◌≡◌, List, Option, IsOk, ⊤}
+use Rattle.std.specs.Prelude.{ℕ, ◌≡◌, Bool, true, false, List, Option, IsOk, ⊤}
 use Rattle.moa_tree.specs.Canonical.{canonical}
 use Rattle.moa_tree.specs.Expr.{Tree}
 use Rattle.moa_tree.specs.Readings.{Reads}
 use Rattle.shape_check.specs.Statements.{verdict_of}
 use Rattle.psi_compile.specs.Compiled.{IsCompiled}
-use Rattle.psi_compile.specs.Errors.{IsCause, IsUnchecked}
+use Rattle.psi_compile.specs.Errors.{IsBuiltFirst, IsCause}
 use Rattle.psi_compile.specs.declared.error.CompileError.{CompileError}
 use Rattle.psi_compile.specs.declared.error.CompileError.TheVariants as error
-use Rattle.psi_compile.specs.FirstForm.{IsFirstForm}
+use Rattle.nest_jobs.specs.Plain.{ArePlain}
 use Rattle.psi_edges.specs.Files.{Files, OnFile}
 use Rattle.rv_line.specs.Parts.{Parts}
 use Rattle.rv_line.specs.Spells.{Spells}
 use Rattle.array_run.specs.Ran.{Prints, ran}
 use Rattle.psi_top.specs.Command.{IsCommand, IsRun}
 use Rattle.psi_top.specs.Report.{report}
-use Rattle.psi_top.specs.Shown.{dnf, onf}
+use Rattle.psi_top.specs.Shown.{dnf, nest, onf}
 use Rattle.psi_top.specs.declared.command.Task.{Task}
-use Rattle.psi_top.specs.declared.command.Task.TheVariants.{Check, ShowSource, ShowDnf, ShowOnf, Compile}
+use Rattle.psi_top.specs.declared.command.Task.TheVariants.{Check, ShowSource, ShowDnf, ShowOnf, ShowNest, Compile}
+
+-- a task makes nests: of a program whose expressions are built, which is asked before its shapes
+abbrev pub makes_nests : Task → Bool
+makes_nests ShowNest = true
+makes_nests Compile = true
+makes_nests _ = false
 
 -- a task can be done for this program
-abbrev pub CanMake : Task → Tree → Type 0
-CanMake Compile tree = IsFirstForm tree.statements
-CanMake _ tree = IsOk (verdict_of tree.statements)
+pub record CanMake (task : Task) (tree : Tree) : Type 0 where
+  pub built : makes_nests task ≡ true → ArePlain tree.statements
+  pub accepted : IsOk (verdict_of tree.statements)
 
--- the text is what a task makes of this program: the report on it, its canonical text, its forms, or one that is good for it
+-- the text is what a task makes of this program: the report on it, its canonical text, its forms, its nests, or one that is good for it
 abbrev pub IsTextFor : Task → Tree → List ℕ → Type 0
 IsTextFor Check tree text = text ≡ report tree.statements
 IsTextFor ShowSource tree text = text ≡ canonical tree
 IsTextFor ShowDnf tree text = text ≡ dnf tree.statements
 IsTextFor ShowOnf tree text = text ≡ onf tree.statements
+IsTextFor ShowNest tree text = text ≡ nest tree.statements
 IsTextFor Compile tree text = IsCompiled tree text
 
 -- the text is what a task makes of a source
@@ -50,12 +57,13 @@ pub data IsDone (words : List (List ℕ)) (told : Option Files) (text : List ℕ
   of_source : {task : Task} {name : List ℕ} → IsCommand words task name → OnFile told name (λ source. IsMade task source text) → IsDone words told text
   of_run : {assembly arrays : List ℕ} → IsRun words assembly arrays → OnFile told assembly (λ program. OnFile told arrays (λ file. IsRunOf program file text)) → IsDone words told text
 
--- the program is of no form that is built
+-- an expression is not built
 abbrev pub IsUnbuilt : CompileError → Type 0
 IsUnbuilt (error.NotBuilt at) = ⊤
 IsUnbuilt _ = ⊥
 
--- why a task cannot be done for a source: what is not compiled is of another form before it is checked
-abbrev pub IsCauseFor : Task → List ℕ → CompileError → Type 0
-IsCauseFor Compile source error = IsCause source error × IsUnchecked error
-IsCauseFor _ source error = IsCause source error × (IsUnbuilt error → ⊥)
+-- why a task cannot be done for a source: an expression that is not built is a cause where nests are made, and there it is asked for before shapes
+pub record IsCauseFor (task : Task) (source : List ℕ) (error : CompileError) : Type 0 where
+  pub cause : IsCause source error
+  pub unbuilt : IsUnbuilt error → makes_nests task ≡ true
+  pub built : makes_nests task ≡ true → IsBuiltFirst source error

@@ -1,5 +1,5 @@
 -- What a call comes to.
-use Rattle.std.specs.Prelude.{ℕ, ◌+◌, ◌≡◌, ◌≢◌, ◌<◌, ◌≤◌, ◌⊎◌, nat_le, if◌then◌else◌, List, [], ◌∷◌, ◌++◌, All, length, Option, Some, None, Err}
+use Rattle.std.specs.Prelude.{ℕ, ◌+◌, ◌≡◌, ◌<◌, ◌≤◌, ◌⊎◌, nat_le, if◌then◌else◌, true, List, [], ◌∷◌, ◌++◌, All, length, Option, Some, None, Err}
 use Rattle.std.specs.Option.{option_map}
 use Rattle.std.specs.FinMap.{get}
 use Rattle.text_tokens.specs.declared.token.Position.{Position}
@@ -9,7 +9,8 @@ use Rattle.moa_tree.specs.Refusals.{IsRefused}
 use Rattle.shape_check.specs.Rules.{Failure}
 use Rattle.shape_check.specs.Statements.{verdict_of}
 use Rattle.psi_compile.specs.Errors.{position_of}
-use Rattle.psi_compile.specs.FirstForm.{IsNotBuilt}
+use Rattle.nest_jobs.specs.Plain.{ArePlain}
+use Rattle.psi_compile.specs.Built.{IsNotBuilt}
 use Rattle.psi_edges.specs.Causes.{Rose, raised}
 use Rattle.psi_edges.specs.Files.{Files, OnFile}
 use Rattle.rv_line.specs.Parts.{Parts, block_words}
@@ -18,10 +19,9 @@ use Rattle.array_run.specs.Ran.{Ran, ran}
 use Rattle.psi_top.specs.Command.{Asks, IsCommand, IsMisuse, IsRun}
 use Rattle.psi_top.specs.Line.{usage_line, cannot_read_line, longer_line, exceeded_line, no_memory_line, not_built_line, rule_line, text_line}
 use Rattle.psi_top.specs.Line.{access_line, assembly_line, block_line, budget_line, data_line, greatest_block, off_text_line, trap_line}
-use Rattle.psi_top.specs.Made.{CanMake, IsTextFor}
+use Rattle.psi_top.specs.Made.{CanMake, IsTextFor, makes_nests}
 use Rattle.psi_top.specs.Views.{ShelfView}
 use Rattle.psi_top.specs.declared.command.Task.{Task}
-use Rattle.psi_top.specs.declared.command.Task.TheVariants.{Compile}
 
 -- what a call comes to: a refusal by its status and its line, the text that a task makes of a program, or this text, of printed arrays
 pub data Outcome : Type 0 where
@@ -74,8 +74,8 @@ failure_line name source (Failure.Limit place which value) = exceeded_line name 
 pub data IsSourceOutcome (task : Task) (name source : List ℕ) : Outcome → ℕ → Type 0 where
   too_long : longest < length source → IsSourceOutcome task name source (Refuses 6 (longer_line name 1 longest)) (longest + 1)
   refused : {at : Position} {cause : ℕ} → length source ≤ longest → IsRefused source at cause → IsSourceOutcome task name source (Refuses 4 (text_line name at cause)) (length source)
-  not_built : {at : Position} → length source ≤ longest → task ≡ Compile → IsNotBuilt source at → IsSourceOutcome task name source (Refuses 11 (not_built_line name at)) (length source)
-  fails : {tree : Tree} {failure : Failure} → length source ≤ longest → task ≢ Compile → Reads source tree → verdict_of tree.statements ≡ Err failure → IsSourceOutcome task name source (Refuses (failure_status failure) (failure_line name source failure)) (length source)
+  not_built : {at : Position} → length source ≤ longest → makes_nests task ≡ true → IsNotBuilt source at → IsSourceOutcome task name source (Refuses 11 (not_built_line name at)) (length source)
+  fails : {tree : Tree} {failure : Failure} → length source ≤ longest → Reads source tree → (makes_nests task ≡ true → ArePlain tree.statements) → verdict_of tree.statements ≡ Err failure → IsSourceOutcome task name source (Refuses (failure_status failure) (failure_line name source failure)) (length source)
   made : {tree : Tree} → length source ≤ longest → Reads source tree → CanMake task tree → IsSourceOutcome task name source (Makes task tree) (length source)
 
 -- what a call comes to, and how many bytes are read for it

@@ -1,4 +1,4 @@
--- The forms of a program as text, a line a job. This project's own, after Mullin and Thibault (1994).
+-- The forms of a program as text, a line a job, and its nests. This project's own, after Mullin and Thibault (1994).
 use Rattle.std.specs.Prelude.{ℕ, List, Option, take}
 use Rattle.std.specs.List.{flat_map, zip}
 use Rattle.std.specs.Option.{option_map}
@@ -11,7 +11,10 @@ use Rattle.normal_form.specs.Forms.{Normal}
 use Rattle.psi_rules.specs.Jobs.{forms}
 use Rattle.psi_rules.specs.Scopes.{job_shapes}
 use Rattle.stride_form.specs.Operational.{operational}
+use Rattle.form_text.specs.NestSpelling.{nest_lines}
 use Rattle.form_text.specs.Spelling.{normal_line, operational_line}
+use Rattle.loop_ir.specs.Steps.{Steps}
+use Rattle.nest_jobs.specs.Leads.{nests}
 use Rattle.psi_top.specs.declared.forms.FormKind.{FormKind}
 use Rattle.psi_top.specs.declared.forms.FormKind.TheVariants as kind
 
@@ -53,3 +56,16 @@ shown of items = spelled_all (spelled_as of) items (formed items)
 
 abbrev pub shown_first : FormKind → List Item → ℕ → List ℕ
 shown_first of items count = spelled_all (spelled_as of) items (take count (formed items))
+
+-- ---- nests
+
+-- the lines of these jobs' nests
+abbrev pub nest_rows : List Area → List (TreeJob × Steps) → List ℕ
+nest_rows areas jobs = flat_map (λ job. nest_lines areas job.0.job job.1) jobs
+
+-- the nests of all jobs, and of the first ones
+abbrev pub nest : List Item → List ℕ
+nest items = nest_rows (areas items) (zip (jobs items) (nests items))
+
+abbrev pub nest_first : List Item → ℕ → List ℕ
+nest_first items count = nest_rows (areas items) (take count (zip (jobs items) (nests items)))

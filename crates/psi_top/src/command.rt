@@ -18,6 +18,8 @@ pub(crate) enum Task {
     ShowDnf,
     /// Their operational normal forms.
     ShowOnf,
+    /// The nests of its jobs.
+    ShowNest,
     /// The text that it is compiled to.
     Compile,
 }
@@ -59,6 +61,7 @@ fn task_shown(word: &str) -> Option<Task>
         "source" => Some(Task::ShowSource),
         "dnf" => Some(Task::ShowDnf),
         "onf" => Some(Task::ShowOnf),
+        "nest" => Some(Task::ShowNest),
         _ => None,
     }
 }

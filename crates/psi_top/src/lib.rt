@@ -7,6 +7,7 @@ mod fetch;
 mod forms;
 mod laws;
 mod line;
+mod nests;
 mod program;
 mod refusal;
 mod report;

@@ -26,11 +26,12 @@ use crate::execute::run_of;
 use crate::fetch::fetch;
 use crate::forms::{FormKind, forms_of};
 use crate::laws::{one_outcome, texts_run};
+use crate::nests::nests_text;
 use crate::refusal::{CANNOT_WRITE_STATUS, Refusal, put_line, refuse};
 use crate::report::report_on;
 use moa_reader::{print, read};
 use psi_compile::laws::causes_are_kept;
-use psi_compile::{CompileError, compile};
+use psi_compile::{CompileError, built_program, compile};
 use psi_edges::{Shelf, Sink, WriteFault, write_whole};
 use shape_check::{Checked, check};
 use std::alloc::Global;
@@ -63,6 +64,7 @@ fn text_for(alloc: Global, task: Task, source: &[u8]) -> Result<Vec<u8>, Compile
         Task::ShowSource => Ok(print(alloc, checked(alloc, source)?.program())?),
         Task::ShowDnf => Ok(forms_of(alloc, FormKind::Normal, &checked(alloc, source)?)?),
         Task::ShowOnf => Ok(forms_of(alloc, FormKind::Operational, &checked(alloc, source)?)?),
+        Task::ShowNest => Ok(nests_text(alloc, &built_program(alloc, source)?)?),
         Task::Compile => compile(alloc, source),
     }
 }

@@ -18,7 +18,7 @@ use text_tokens::Position;
 pub(crate) const CANNOT_WRITE_STATUS: u8 = 3;
 
 const USAGE: &[u8] =
-    b"usage: psic check FILE | show dnf|onf|source FILE | compile FILE | run ASM DATA\n";
+    b"usage: psic check FILE | show dnf|onf|nest|source FILE | compile FILE | run ASM DATA\n";
 
 const NO_MEMORY: &[u8] = b"psic: no memory\n";
 

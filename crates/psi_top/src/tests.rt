@@ -9,7 +9,7 @@ const TWO_VECTORS: &str = "psi 1\nin A 3\nin B 3\nout C = add A B\n";
 
 /// The text that it is compiled to.
 const TWO_VECTORS_TEXT: &str = "# psi 1
-# steps 30
+# steps 35
 # spill 0
 # in A 0 3
 # in B 3 3
@@ -17,25 +17,28 @@ const TWO_VECTORS_TEXT: &str = "# psi 1
 .text
 .globl psi_main
 psi_main:
-    addi x11, x0, 24
-    addi x5, x10, 0
-    add x6, x5, x11
-    add x7, x6, x11
-    addi x11, x6, 0
-.L5:
-    ld x12, 0(x5)
-    ld x13, 0(x6)
-    add x12, x12, x13
-    sd x12, 0(x7)
-    addi x5, x5, 8
-    addi x6, x6, 8
+    addi x30, x0, 0
+    add x7, x30, x10
+    addi x30, x0, 24
+    add x11, x30, x10
+    addi x30, x0, 48
+    add x12, x30, x10
+    addi x5, x0, 3
+.L7:
+    ld x6, 0(x7)
+    ld x13, 0(x11)
+    add x6, x6, x13
+    sd x6, 0(x12)
     addi x7, x7, 8
-    bne x5, x11, .L5
+    addi x11, x11, 8
+    addi x12, x12, 8
+    addi x5, x5, -1
+    bne x5, x0, .L7
     jalr x0, 0(x1)
 ";
 
 const USAGE: &str =
-    "usage: psic check FILE | show dnf|onf|source FILE | compile FILE | run ASM DATA\n";
+    "usage: psic check FILE | show dnf|onf|nest|source FILE | compile FILE | run ASM DATA\n";
 
 /// What a call answered and put.
 #[derive(Drop)]
@@ -134,26 +137,23 @@ fn each_is_not_built(rt: &impl Abort, alloc: Global, rows: &[(&str, &str)]) -> R
 }
 
 #[test]
-fn other_programs_are_not_built_at_their_first_name(rt: HostRuntime) -> Result<(), Fail> {
+fn the_first_expression_that_is_not_built_is_named(rt: HostRuntime) -> Result<(), Fail> {
     each_is_not_built(
         &rt,
         rt.alloc(),
         &[
-            ("psi 1\nin A 3\nin B 4\nout C = add A B\n", "2:4"),
-            ("psi 1\nin A 3\nin B 3\nout C = sub A B\n", "2:4"),
-            ("psi 1\nin A 0\nin B 0\nout C = add A B\n", "2:4"),
-            ("psi 1\nin A -3\nin B -3\nout C = add A B\n", "2:4"),
+            ("psi 1\nin A 3\nout C = rotate 1 A\n", "3:9"),
+            ("psi 1\nin A 3\nout C = reverse cat A A\n", "3:17"),
             (
-                "psi 1\nin A 16777217\nin B 16777217\nout C = add A B\n",
-                "2:4",
+                "psi 1\nin A 3\nlet B = reduce add A\nout C = scan add A\n",
+                "3:9",
             ),
-            ("psi 1\nin A 3 1\nin B 3 1\nout C = add A B\n", "2:4"),
-            ("psi 1\nin A 3\nin B 3\nout C = add B A\n", "2:4"),
-            ("psi 1\nin A 3\nin B 3\nout C = add A 3\n", "2:4"),
-            ("psi 1\nin A 3\nin A 3\nout C = add A A\n", "2:4"),
-            ("psi 1\nin A 3\nin B 3\nout A = add A B\n", "2:4"),
-            ("psi 1\nin A 3\nin B 3\nlet C = add A B\nout D = C\n", "2:4"),
-            ("psi 1 # none\n\n  out C = 7", "3:7"),
+            (
+                "psi 1\nin A 3\nout C = add (ravel A) reshape <3> A\n",
+                "3:14",
+            ),
+            ("psi 1\nin A 3\nout A = inner add mul A B\n", "3:9"),
+            ("psi 1\nin A 16777217\nout C = scan add A", "3:9"),
         ],
     )
 }
@@ -176,11 +176,15 @@ fn the_least_and_the_greatest_extent_are_compiled(rt: HostRuntime) -> Result<(),
         &[
             (
                 "psi 1\nin A 1\nin B 1\nout C = add A B\n",
-                "# psi 1\n# steps 14\n# spill 0\n# in A 0 1\n# in B 1 1\n# out C 2 1\n",
+                "# psi 1\n# steps 11\n# spill 0\n# in A 0 1\n# in B 1 1\n# out C 2 1\n",
+            ),
+            (
+                "psi 1\nin A 0\nin B 0\nout C = add A B\n",
+                "# psi 1\n# steps 1\n# spill 0\n# in A 0 0\n# in B 0 0\n# out C 0 0\n",
             ),
             (
                 "psi 1\nin left 16777216\nin right_2 16777216\nout s = add left right_2\n",
-                "# psi 1\n# steps 134217735\n# spill 0\n# in left 0 16777216\n# in right_2 16777216 16777216\n# out s 33554432 16777216\n",
+                "# psi 1\n# steps 150994955\n# spill 0\n# in left 0 16777216\n# in right_2 16777216 16777216\n# out s 33554432 16777216\n",
             ),
         ],
     )
@@ -209,6 +213,23 @@ fn denotational_forms_are_shown(rt: HostRuntime) -> Result<(), Fail> {
         "show dnf",
         "out C <2 2> = fold(add, v2 from 0 to 2, mul(A[v0 v2], B[v2 v1]))\n",
     )
+}
+
+#[test]
+fn nests_are_shown(rt: HostRuntime) -> Result<(), Fail> {
+    let answer = over_source(
+        rt.alloc(),
+        "show nest",
+        "p.moa",
+        b"psi 1\nin A\nout C = neg A\n",
+    )?;
+    assert_eq!(rt; answer.status, 0);
+    assert_eq!(rt; answer.err.len(), 0);
+    assert_eq!(rt;
+        str::from_utf8(&answer.out)?,
+        "job out C\nplace p1 0\nplace p2 1\nread r0 A p1\nneg r0 r0\nwrite C p2 r0\n"
+    );
+    Ok(())
 }
 
 #[test]

@@ -14,7 +14,7 @@ pub(crate) const TWO_VECTORS: &str = "psi 1\nin A 3\nin B 3\nout C = add A B\n";
 /// Values for it, of which the sum is 11 22 33.
 pub(crate) const TWO_ARRAYS: &str = "array A 3\n1 2 3\narray B 3\n10 20 30\n";
 
-/// What stands behind the number of its steps, which are 30, in the text that it is compiled to.
+/// What stands behind the number of its steps, which are 30, in a text for it that was written by hand.
 const TWO_VECTORS_TEXT: &str = "
 # spill 0
 # in A 0 3
@@ -48,7 +48,7 @@ pub(crate) struct Answer {
     pub(crate) err: Vec<u8>,
 }
 
-/// The text that the sum of two vectors is compiled to, with this number of steps.
+/// That text for the sum of two vectors, with this number of steps.
 pub(crate) fn two_vectors(alloc: Global, steps: u64) -> Result<String, Fail> {
     Ok(format!(in alloc; "# psi 1\n# steps {steps}{TWO_VECTORS_TEXT}")?)
 }

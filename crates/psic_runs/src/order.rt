@@ -6,7 +6,7 @@ use std::process::Abort;
 use std::test::Fail;
 
 const USAGE: &str =
-    "usage: psic check FILE | show dnf|onf|source FILE | compile FILE | run ASM DATA\n";
+    "usage: psic check FILE | show dnf|onf|nest|source FILE | compile FILE | run ASM DATA\n";
 
 /// Each of these lines of words gets the usage line, over a shelf without a file.
 fn each_is_misuse(rt: &impl Abort, alloc: Global, lines: &[&str]) -> Result<(), Fail> {

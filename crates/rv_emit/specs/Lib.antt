@@ -1,1 +1,13 @@
+pub mod Computing
+pub mod Counting
+pub mod EmitExamples
+pub mod Emitting
 pub mod Fills
+pub mod Handling
+pub mod Moving
+pub mod Pricing
+pub mod Programs
+pub mod Showing
+pub mod Simulating
+pub mod TestNests
+pub mod Walks

@@ -33,6 +33,13 @@ fn is_within(bound: u32, value: i64) -> bool
     -(bound as i64) <= value && value < bound as i64
 }
 
+/// Whether the number is an immediate.
+pub(crate) fn is_short(value: i64) -> bool
+    ensures { result ≡ is_signed_below 2048 value }
+{
+    is_within(SHORT, value)
+}
+
 /// The number without its lowest twelve bits, rounded to the nearest.
 fn upper_of(value: i64) -> i64
     ensures { result ≡ upper_of value }
@@ -72,7 +79,7 @@ fn short(to: u8, value: i64) -> Few
     ensures few { length result ≤ 2 }
 {
     let mut lines = Few::new();
-    if is_within(SHORT, value) {
+    if is_short(value) {
         lines.push(line(Imm::Addi, to, 0, value as i32));
         return lines;
     }

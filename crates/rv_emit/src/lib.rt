@@ -1,10 +1,29 @@
-// The lines of the machine to which nests are brought; so far those of constants.
+// The lines of the machine to which nests are brought, and the laws of what they do.
 #![tactic(auto)]
 
+pub mod action_laws;
+mod actions;
+mod computing;
+pub mod computing_laws;
 mod constants;
+mod counters;
+pub mod counting_laws;
+mod emission;
+pub mod emitting_examples;
 mod few;
+pub mod form_laws;
+mod handling;
+mod moving;
+pub mod moving_laws;
+mod owed;
+mod pieces;
+mod site;
+pub mod size_laws;
+pub mod step_laws;
+mod steps;
 #[cfg(test)]
 mod tests;
 
 pub use constants::constant;
+pub use emission::emit;
 pub use few::Few;

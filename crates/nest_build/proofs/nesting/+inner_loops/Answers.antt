@@ -1,4 +1,4 @@
-use Rattle.std.proofs.Common.{arith, sym, subst}
+use Rattle.std.proofs.Common.{sym, subst}
 use Rattle.nest_build.specs.Coding.{loop_of, loops_of, spots_of}
 use Rattle.nest_build.specs.Nests.{inner_loops}
 use Rattle.nest_build.specs.Standing.{Stands, tree_in}

@@ -1,0 +1,15 @@
+mod AreaLemmas
+mod BeforeLemmas
+mod BuildLemmas
+mod LeadLemmas
+mod ListLemmas
+mod NestOfLemmas
+mod OutputLemmas
+mod PlacedLemmas
+mod ProgramLemmas
+mod ScopeLemmas
+mod ShapeLemmas
+mod SizeLemmas
+mod SourceLemmas
+mod StepLemmas
+mod StraightLemmas

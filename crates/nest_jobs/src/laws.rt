@@ -1,0 +1,111 @@
+// The jobs of plain programs and their forms, as clauses of functions that do nothing.
+ghost use Rattle.std.specs.List.{AllByRecursion};
+ghost use Rattle.std.specs.Prelude.{◌≡◌, ◌+◌, ◌<◌, ◌≤◌, ℕ, true, List, [], None, Ok, Some, map, slice_get};
+ghost use Rattle.moa_tree.specs.Canonical.{IsBuiltItem};
+ghost use Rattle.moa_tree.specs.Denotation.{Store as Lists};
+ghost use Rattle.moa_tree.specs.Expr.{Item};
+ghost use Rattle.moa_tree.specs.ShapeOf.{Shapes};
+ghost use Rattle.normal_form.specs.Forms.{Normal};
+ghost use Rattle.shape_check.specs.Costs.{job_size, job_work, size, work};
+ghost use Rattle.shape_check.specs.Jobs.{TreeJob, jobs};
+ghost use Rattle.shape_check.specs.Layout.{areas, gathered, scan_shapes, words};
+ghost use Rattle.shape_check.specs.Statements.{verdict_of};
+ghost use Rattle.psi_rules.specs.Areas.{Given, given};
+ghost use Rattle.psi_rules.specs.Jobs.{forms};
+ghost use Rattle.psi_rules.specs.Scopes.{job_shapes};
+ghost use Rattle.stride_form.specs.Operational.{operational};
+ghost use Rattle.nest_build.specs.Bounds.{terms};
+ghost use Rattle.nest_build.specs.Gives.{AreLaidOut, IsBuildable};
+ghost use Rattle.nest_build.specs.Parts.{accesses, is_straight};
+ghost use Rattle.nest_jobs.specs.Outputs.{Due, array_of, dues, form_of, job_of};
+ghost use Rattle.nest_jobs.specs.Plain.{ArePlain};
+ghost use Rattle.nest_jobs.specs.Sizes.{form_size, form_sizes, form_work, form_works};
+
+use psi_rules::keeping_laws::forms_keep;
+use psi_rules::laws::jobs_give;
+use psi_rules::loading_laws::forms_load;
+use shape_check::laws::verdicts_are_shapes;
+use shapes_core::laws::span_laws;
+use stride_form::laws::places_are_offsets;
+
+/// Each job of a plain program is an output's, and no scan has an area.
+pub fn plain_jobs_are_outputs()
+    ensures outputs { (items : List Item) (number : ℕ) (tree_job : TreeJob) → ArePlain items
+        → slice_get (jobs items) number ≡ Some tree_job → tree_job.job.fold ≡ None }
+    ensures scans { (items : List Item) → ArePlain items → gathered scan_shapes [] items ≡ [] }
+{}
+
+/// The jobs of a plain program, their forms, their arrays and the shapes of these are those of its
+/// outputs, in order.
+pub fn jobs_are_dues()
+    ensures jobs { (inputs : Lists) (items : List Item) → ArePlain items
+        → jobs items ≡ map job_of (dues inputs items) }
+    ensures forms { (inputs : Lists) (items : List Item) → ArePlain items
+        → forms items ≡ map form_of (dues inputs items) }
+    ensures arrays { (inputs : Lists) (items : List Item) → ArePlain items
+        → given inputs items ≡ map array_of (dues inputs items) }
+    ensures shapes { (inputs : Lists) (items : List Item) → ArePlain items
+        → job_shapes items ≡ map (λ array. array.shape) (given inputs items) }
+{}
+
+/// The form of each of its jobs is straight.
+pub fn plain_forms_are_straight()
+    ensures { (items : List Item) (number : ℕ) (form : Normal) → ArePlain items
+        → slice_get (forms items) number ≡ Some (Some form)
+        → is_straight (operational form) ≡ true }
+{}
+
+/// A job loads from inputs and from the outputs of jobs before it.
+pub fn forms_load_what_is_before()
+    ensures { (items : List Item) (number : ℕ) (tree_job : TreeJob) (form : Normal) → ArePlain items
+        → slice_get (jobs items) number ≡ Some tree_job
+        → slice_get (forms items) number ≡ Some (Some form)
+        → AllByRecursion (λ access. access.area < tree_job.job.area) (accesses (operational form)) }
+{}
+
+/// The areas of an accepted program are laid out: each lies in the words of them all, and no word is
+/// of two areas.
+pub fn areas_are_laid_out()
+    ensures { (items : List Item) (shapes : Shapes) → verdict_of items ≡ Ok shapes
+        → AreLaidOut (areas items) (words items) }
+{}
+
+/// What a nest asks of its form holds of the form of each job, on the whole of the job's array.
+pub fn forms_are_buildable()
+    ensures { (inputs : Lists) (items : List Item) (shapes : Shapes) (number : ℕ)
+        (tree_job : TreeJob) (array : Given) (form : Normal)
+        → verdict_of items ≡ Ok shapes → AllByRecursion IsBuiltItem items → ArePlain items
+        → slice_get (jobs items) number ≡ Some tree_job
+        → slice_get (given inputs items) number ≡ Some array
+        → slice_get (forms items) number ≡ Some (Some form)
+        → IsBuildable (areas items) tree_job.job.area array.shape (map (λ n. (0, n)) array.shape)
+        (operational form) }
+{
+    plain_forms_are_straight();
+    forms_keep();
+    forms_load();
+    jobs_give();
+    places_are_offsets();
+    span_laws();
+    verdicts_are_shapes();
+}
+
+/// A form has at most as many terms as its job has nodes, and at most as many as an element of its
+/// job asks for work: so the form of each output is within the size and the work of its job, and
+/// those of all jobs are within the size and the work of the program.
+pub fn forms_are_small()
+    ensures size_of_one { (inputs : Lists) (items : List Item) (number : ℕ) (due : Due)
+        → ArePlain items
+        → slice_get (dues inputs items) number ≡ Some due
+        → form_size (form_of due) ≤ job_size due.scene.prices (job_of due) }
+    ensures work_of_one { (inputs : Lists) (items : List Item) (number : ℕ) (due : Due)
+        → ArePlain items
+        → slice_get (dues inputs items) number ≡ Some due
+        → form_work (form_of due) (array_of due) ≤ job_work due.scene.prices (job_of due) }
+    ensures sizes { (items : List Item) → ArePlain items → form_sizes (forms items) ≤ size items }
+    ensures works { (inputs : Lists) (items : List Item) → ArePlain items
+        → form_works (forms items) (given inputs items) ≤ work items }
+    ensures each { (items : List Item) (number : ℕ) (form : Normal) → ArePlain items
+        → slice_get (forms items) number ≡ Some (Some form)
+        → 2 + terms (operational form) ≤ size items }
+{}

@@ -1,3 +1,0 @@
-pub mod FormLemmas
-pub mod StartLemmas
-pub mod SumLemmas

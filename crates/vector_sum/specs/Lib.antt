@@ -1,4 +1,0 @@
-pub mod Form
-pub mod Kernel
-pub mod Meaning
-pub mod Walk
