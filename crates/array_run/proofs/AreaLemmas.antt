@@ -9,7 +9,7 @@ use Rattle.shapes_core.specs.declared.area.Area.{Area}
 use Rattle.shapes_core.specs.declared.area.AreaKind.{AreaKind}
 use Rattle.shapes_core.specs.declared.area.AreaKind.TheVariants.{In, Out, Scan}
 use Rattle.shapes_core.specs.declared.area.Declared.{Declared}
-use Rattle.rv_line.specs.Fits.{AreAreas, AreInOrder, AreOuts, ArePacked, AreScans, names}
+use Rattle.rv_line.specs.Fits.{AreAreas, AreInOrder, AreOuts, ArePacked, AreScans, area_names}
 use Rattle.array_run.specs.Starts.{input_in, inputs}
 
 abbrev kinds_of : List Area → List AreaKind
@@ -45,16 +45,16 @@ no_inputs_in_outs (area ∷ areas) outs =
 
 -- the names of the inputs stand in front of all others
 abbrev NamedFirst : List AreaKind → List Declared → Type 0
-NamedFirst kinds declared = (behind : List (List ℕ)) × (names kinds ≡ names_of declared ++ behind)
+NamedFirst kinds declared = (behind : List (List ℕ)) × (area_names kinds ≡ names_of declared ++ behind)
 
 named_first : (kind : AreaKind) (shape : List ℕ) (kinds : List AreaKind) (others : List Declared) → AreInOrder (kind ∷ kinds)
     → (AreInOrder kinds → NamedFirst kinds others) → (AreOuts kinds → others ≡ []) → (AreScans 1 kinds → others ≡ [])
     → NamedFirst (kind ∷ kinds) (input_in kind shape ++ others)
 named_first (In name) shape kinds others order first none last = let f = first order in (f.0, ap (λ list. name ∷ list) f.1)
 named_first (Out name) shape kinds others order first none last =
-    (name ∷ names kinds, ap (λ list. names_of list ++ (name ∷ names kinds)) (sym (none order)))
+    (name ∷ area_names kinds, ap (λ list. names_of list ++ (name ∷ area_names kinds)) (sym (none order)))
 named_first (Scan found) shape kinds others order first none last =
-    (names kinds, ap (λ list. names_of list ++ names kinds) (sym (last order.1)))
+    (area_names kinds, ap (λ list. names_of list ++ area_names kinds) (sym (last order.1)))
 
 inputs_first : (areas : List Area) → AreInOrder (kinds_of areas) → NamedFirst (kinds_of areas) (inputs areas)
 inputs_first [] order = ([], refl)

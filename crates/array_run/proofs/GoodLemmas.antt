@@ -2,6 +2,7 @@
 use Rattle.std.proofs.Common.{◌≡◌, ℕ, ◌≤◌, ◌^◌, ℤ, List, ◌∙◌, length, sym, ap, subst, arith, sum_by, FitsSigned}
 use Rattle.std.specs.Int.{w64}
 use Rattle.std.specs.List.{All}
+use Rattle.shapes_core.specs.Limits.{most_items, most_words}
 use Rattle.shapes_core.specs.declared.area.Area.{Area}
 use Rattle.rv_line.specs.Fits.{AreAreas}
 use Rattle.rv_line.specs.Parts.{Parts, block_words}
@@ -42,8 +43,8 @@ module _ (bytes_law : BytesLaw) (stops_law : StopsLaw) where
       ∙ ap (printed_all (outputs program.areas)) (serves.outputs ∙ ap demand held))
 
   pub good_gives : (text : List ℕ) (areas : List Area) (demand : List (List ℤ) → List (List ℤ)) (program : Parts) (arrays : List (List ℤ))
-      → IsGood text areas demand → Spells text program → length program.lines ≤ 2 ^ 30
-      → block_words program.header program.areas ≤ 134217728
+      → IsGood text areas demand → Spells text program → length program.lines ≤ most_items
+      → block_words program.header program.areas ≤ most_words
       → AreWhole (inputs program.areas) arrays → All (All (FitsSigned w64)) arrays
       → ran_on program arrays ≡ Prints (printed_all (outputs program.areas) (demand arrays))
   good_gives text areas demand program arrays good spelled few room whole fits =

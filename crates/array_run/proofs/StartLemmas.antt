@@ -3,6 +3,7 @@ use Rattle.std.proofs.Common.{ℕ, ◌*◌, ◌<◌, ◌≤◌, ◌^◌, ℤ, Li
 use Rattle.std.proofs.lemmas.List.Elements.{All-append, All-nil, All-replicate, All-set}
 use Rattle.std.specs.Int.{Width, to_le_bytes, w64}
 use Rattle.std.specs.List.{All, flat_map}
+use Rattle.shapes_core.specs.Limits.{most_items, most_words}
 use Rattle.rv_line.specs.Parts.{Parts, block_words}
 use Rattle.rv_steps.specs.Effects.{word_of}
 use Rattle.rv_steps.specs.Good.{IsStart}
@@ -35,8 +36,8 @@ module _ (bytes_law : BytesLaw) where
   array_bytes (values ∷ arrays) =
       All-append (λ byte. byte < 256) (bytes_of values) (flat_map bytes_of arrays) (value_bytes values) (array_bytes arrays)
 
-  pub is_start : (program : Parts) (arrays : List (List ℤ)) → length program.lines ≤ 2 ^ 30
-      → block_words program.header program.areas ≤ 134217728
+  pub is_start : (program : Parts) (arrays : List (List ℤ)) → length program.lines ≤ most_items
+      → block_words program.header program.areas ≤ most_words
       → AreWhole (inputs program.areas) arrays → IsStart program.header program.areas program.lines base (start program arrays)
   unfolding register_at
   is_start program arrays few room whole =

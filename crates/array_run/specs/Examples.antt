@@ -1,4 +1,4 @@
--- Programs and blocks for the worked examples.
+-- Programs and blocks for the worked examples. This project's own.
 use Rattle.std.specs.Prelude.{ℕ, List, [], ◌∷◌, pos, negsuc, codes}
 use Rattle.shapes_core.specs.declared.area.Area.{Area}
 use Rattle.shapes_core.specs.declared.area.AreaKind.TheVariants.{In, Out, Scan}

@@ -1,5 +1,6 @@
 // The laws of runs on arrays, as clauses of functions that do nothing.
 ghost use Rattle.std.specs.Prelude.{◌≡◌, ◌≤◌, ◌^◌, ℕ, ℤ, List, length};
+ghost use Rattle.shapes_core.specs.Limits.{most_items, most_words};
 ghost use Rattle.shapes_core.specs.declared.area.Area.{Area};
 ghost use Rattle.rv_line.specs.Parts.{Parts, block_words};
 ghost use Rattle.rv_line.specs.Spells.{Spells};
@@ -15,8 +16,8 @@ use rv_steps::machine_laws;
 pub fn good_texts_give_what_is_demanded()
     ensures { (text file : List ℕ) (areas : List Area) (demand : List (List ℤ) → List (List ℤ))
         (program : Parts) (arrays : List (List ℤ))
-        → IsGood text areas demand → Spells text program → length program.lines ≤ 2 ^ 30
-        → block_words program.header program.areas ≤ 134217728
+        → IsGood text areas demand → Spells text program → length program.lines ≤ most_items
+        → block_words program.header program.areas ≤ most_words
         → outcome_of (inputs program.areas) file ≡ Outcome.Accepted arrays
         → ran program file ≡ Prints (printed_all (outputs program.areas) (demand arrays)) }
 {

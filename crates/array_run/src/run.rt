@@ -1,6 +1,8 @@
 // A run on the arrays of a file.
 ghost use Rattle.std.specs.Prelude.{◌≡◌, ◌<◌, ◌≤◌, ◌*◌, IfErr, IfOk, length};
 ghost use Rattle.std.specs.List.{AllZip};
+ghost use Rattle.array_text.specs.Limits.{longest_arrays};
+ghost use Rattle.shapes_core.specs.Limits.{most_words};
 ghost use Rattle.shapes_core.specs.Shape.{total};
 ghost use Rattle.rv_line.specs.Parts.{block_words};
 ghost use Rattle.rv_machine.specs.Views.{end_of};
@@ -20,13 +22,13 @@ use shapes_core::Declared;
 use std::alloc::Global;
 
 /// The printed output arrays, in the order of the areas, of a run of the program on the arrays of
-/// a file of at most 268435456 bytes, or why there are none. The block has at most 134217728 words
+/// a file of at most `LONGEST_ARRAYS` bytes, or why there are none. The block has at most `MOST_WORDS` words
 /// and lies at the address 4294967296; the inputs hold the file's arrays and every other word is 0.
 /// `x10` holds the block's address, `x1` that of the end, every other register 0, and the run may
 /// make as many steps as the header says. This project's own.
 pub fn run_on_arrays(alloc: Global, program: &Assembly, file: &[u8]) -> Result<Vec<u8>, RunError>
-    requires room { block_words program.now.header program.now.areas ≤ 134217728 }
-    requires short { length file.now ≤ 268435456 }
+    requires room { block_words program.now.header program.now.areas ≤ most_words }
+    requires short { length file.now ≤ longest_arrays }
     ensures prints { IfOk result (λ text. ran program.now file.now ≡ Prints text.items) }
     ensures says { IfErr result (λ error. Says error (ran program.now file.now)) }
 {
@@ -36,8 +38,8 @@ pub fn run_on_arrays(alloc: Global, program: &Assembly, file: &[u8]) -> Result<V
 
 /// The block of a program with the arrays of a file, before a run.
 fn read_block(alloc: Global, program: &Assembly, file: &[u8]) -> Result<Vec<u8>, RunError>
-    requires room { block_words program.now.header program.now.areas ≤ 134217728 }
-    requires short { length file.now ≤ 268435456 }
+    requires room { block_words program.now.header program.now.areas ≤ most_words }
+    requires short { length file.now ≤ longest_arrays }
     ensures starts { IfOk result (λ block.
         ran program.now file.now ≡ ran_from program.now block.items) }
     ensures sized { IfOk result (λ block.
@@ -56,7 +58,7 @@ fn read(
     file: &[u8],
     declared: &[Declared],
 ) -> Result<Arrays, RunError>
-    requires short { length file.now ≤ 268435456 }
+    requires short { length file.now ≤ longest_arrays }
     requires inputs { declared.now ≡ inputs program.now.areas }
     ensures accepted { IfOk result (λ arrays.
         outcome_of (inputs program.now.areas) file.now ≡ Outcome.Accepted arrays) }

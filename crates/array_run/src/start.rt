@@ -2,6 +2,7 @@
 ghost use Rattle.std.specs.Prelude.{◌≡◌, ◌≤◌, ◌*◌, ◌^◌, ◌++◌, IfOk, OnOk, length, slice_index, sum_by};
 ghost use Rattle.std.specs.Int.{to_le_bytes, w64};
 ghost use Rattle.std.specs.List.{flat_map};
+ghost use Rattle.shapes_core.specs.Limits.{greatest_extent, most_items, most_words};
 ghost use Rattle.rv_line.specs.Parts.{block_words};
 ghost use Rattle.rv_steps.specs.Effects.{word_of};
 ghost use Rattle.array_run.specs.Starts.{bytes_of, input_in, inputs, start_block, start_registers, words_left, zeros};
@@ -48,7 +49,7 @@ pub fn start_block(
     arrays: &Arrays,
     count: usize,
 ) -> Result<Vec<u8>, NoMemory>
-    requires room { block_words program.now.header program.now.areas ≤ 134217728 }
+    requires room { block_words program.now.header program.now.areas ≤ most_words }
     requires count { count ≡ length arrays.now }
     ensures { IfOk result (λ block.
         block.items ≡ start_block program.now.header.spill program.now.areas arrays.now) }
@@ -98,9 +99,9 @@ fn push_value(block: &mut Vec<u8>, value: i64) -> Result<(), NoMemory>
 
 /// The words of all areas that are no input.
 fn words_left(areas: &[Area]) -> u64
-    requires { length areas.now ≤ 2 ^ 30 }
+    requires { length areas.now ≤ most_items }
     ensures value { result ≡ sum_by words_left areas.now }
-    ensures small { result ≤ 16777216 * length areas.now }
+    ensures small { result ≤ greatest_extent * length areas.now }
 {
     let mut words = 0;
     for area in areas {
@@ -111,7 +112,7 @@ fn words_left(areas: &[Area]) -> u64
 
 fn words_left_in(area: &Area) -> u64
     ensures value { result ≡ words_left area.now }
-    ensures small { result ≤ 16777216 }
+    ensures small { result ≤ greatest_extent }
 {
     match area.kind {
         AreaKind::In(_) => 0,
@@ -123,7 +124,7 @@ fn words_left_in(area: &Area) -> u64
 /// The registers of a program of so many lines, before its first: `x1` holds the address of the
 /// end, `x10` that of the block, and every other register 0.
 pub fn start_registers(count: usize) -> Regs
-    requires { count ≤ 2 ^ 30 }
+    requires { count ≤ most_items }
     ensures registers { result.x ≡ start_registers count }
     ensures first { result.pc ≡ 65536 }
     ensures zero { slice_index result.x 0 ≡ 0 }

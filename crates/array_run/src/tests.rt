@@ -1,6 +1,8 @@
 // Runs of small programs on files: one that prints its outputs, and one for each error but want of
 // memory.
 ghost use Rattle.std.specs.Prelude.{◌≡◌, ◌^◌, ◌<◌, ◌≤◌, IfOk, length};
+ghost use Rattle.array_text.specs.Limits.{longest_arrays};
+ghost use Rattle.shapes_core.specs.Limits.{most_items};
 ghost use Rattle.rv_line.specs.Fits.{FitLines};
 ghost use Rattle.rv_line.specs.declared.line.Line.TheVariants.{Load as LoadLine, Store as StoreLine};
 ghost use Rattle.rv_line.specs.declared.line.Load.TheVariants.{Ld};
@@ -39,9 +41,9 @@ fn store(from: u8, imm: i32) -> Line
 /// Runs lines over the inputs A and B, the outputs R and S and a scan, behind a spill word.
 fn run_lines(alloc: Global, lines: Vec<Line>, steps: u64, file: &[u8]) -> Result<Vec<u8>, RunError>
     requires fits { FitLines (length lines.items) 0 lines.items }
-    requires count { length lines.items ≤ 2 ^ 30 }
+    requires count { length lines.items ≤ most_items }
     requires steps { steps < 2 ^ 63 }
-    requires short { length file.now ≤ 268435456 }
+    requires short { length file.now ≤ longest_arrays }
 {
     let (Some(a), Some(b), Some(r), Some(s)) = (
         Name::new(b"A"),
@@ -127,9 +129,9 @@ fn outputs_are_printed(rt: HostRuntime) -> Result<(), NoMemory> {
 /// Why these lines give no arrays of this file.
 fn error_of(rt: &impl Abort, alloc: Global, lines: Vec<Line>, steps: u64, file: &[u8]) -> RunError
     requires fits { FitLines (length lines.items) 0 lines.items }
-    requires count { length lines.items ≤ 2 ^ 30 }
+    requires count { length lines.items ≤ most_items }
     requires steps { steps < 2 ^ 63 }
-    requires short { length file.now ≤ 268435456 }
+    requires short { length file.now ≤ longest_arrays }
 {
     run_lines(alloc, lines, steps, file).expect_err(rt, "no arrays")
 }

@@ -9,7 +9,7 @@ pub mod IndexLemmas
 pub mod PassLemmas
 pub mod PlaceLemmas
 pub mod PrintLemmas
-pub mod ReadBack
+pub mod ReadBackLemmas
 pub mod SlotLemmas
 pub mod SourceLemmas
 pub mod TestLemmas

@@ -1,4 +1,4 @@
--- Declared arrays and an outcome for the worked examples.
+-- Declared arrays and an outcome for the worked examples. This project's own.
 use Rattle.std.specs.Prelude.{ℕ, List, [], ◌∷◌, codes}
 use Rattle.shapes_core.specs.declared.area.Declared.{Declared}
 use Rattle.array_text.specs.Outcome.{Outcome, outcome_of}

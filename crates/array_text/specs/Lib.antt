@@ -1,6 +1,7 @@
 pub mod Examples
 pub mod Files
 pub mod Index
+pub mod Limits
 pub mod Lines
 pub mod Outcome
 pub mod Printed

@@ -3,6 +3,7 @@ ghost use Rattle.std.specs.Prelude.{◌≡◌, ◌<◌, ◌≤◌, ℕ, List, []
 ghost use Rattle.std.specs.Prelude.{is_some, position, slice_index_or};
 ghost use Rattle.std.specs.Prelude.{IfErr, IfOk, IfSome, OnOk, MatchResult};
 ghost use Rattle.std.specs.Str.{bytes_eq};
+ghost use Rattle.shapes_core.specs.Limits.{greatest_extent};
 ghost use Rattle.shapes_core.specs.declared.area.Declared.{Declared as Announced};
 ghost use Rattle.array_text.specs.Index.{IsIndex};
 ghost use Rattle.array_text.specs.Outcome.{Came, Head, Outcome, Want, filled, head_of, is_on};
@@ -152,7 +153,7 @@ fn verdict(
         (λ begun. head_of declared.now slots.now name.now extents.now ≡ Head.Begins begun.0 begun.1)
         (λ cause. head_of declared.now slots.now name.now extents.now ≡ Head.Fails cause) }
     ensures within { IfOk result (λ begun. begun.0 < length declared.now) }
-    ensures small { IfOk result (λ begun. begun.1 ≤ 16777216) }
+    ensures small { IfOk result (λ begun. begun.1 ≤ greatest_extent) }
 {
     if !extents.are_extents() {
         return Err(4);
@@ -187,7 +188,7 @@ pub(crate) fn begin(
         (Outcome.Goes slots.now (Want.AnExtent first name.now extents.now)) source.now
         (filled slots.now begun.0 [] begun.1) source.now) }
     ensures within { IfOk result (λ begun. begun.0 < length declared.now) }
-    ensures small { IfOk result (λ begun. begun.1 ≤ 16777216) }
+    ensures small { IfOk result (λ begun. begun.1 ≤ greatest_extent) }
     ensures refused { IfErr result (λ error. IsRefusedWith declared.now
         (Outcome.Goes slots.now (Want.AnExtent first name.now extents.now)) source.now error) }
 {

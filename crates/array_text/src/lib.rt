@@ -9,6 +9,7 @@ mod error;
 mod head;
 mod index;
 pub mod laws;
+mod limits;
 pub mod printed_examples;
 mod printer;
 mod reading;
@@ -20,5 +21,6 @@ mod values;
 
 pub use arrays::Arrays;
 pub use error::DataError;
+pub use limits::LONGEST_ARRAYS;
 pub use printer::print_array;
 pub use reading::read_arrays;

@@ -1,6 +1,7 @@
 // The arrays of a file.
 ghost use Rattle.std.specs.Prelude.{◌≡◌, ◌≢◌, ◌<◌, ◌≤◌, ◌+◌, ◌-◌, ℕ, ℤ, List, [], ◌∷◌, ◌++◌};
 ghost use Rattle.std.specs.Prelude.{length, map, Some, Err, AllPairs, IfErr, IfOk, OnOk, slice_set};
+ghost use Rattle.array_text.specs.Limits.{longest_arrays};
 ghost use Rattle.shapes_core.specs.declared.area.Declared.{Declared as Announced};
 ghost use Rattle.array_text.specs.Files.{IsAccepted};
 ghost use Rattle.array_text.specs.Index.{IsIndex};
@@ -90,7 +91,7 @@ fn array(
 /// is wanted, 9 an input is missing. The bytes are read once, in time linear in them, and a name's
 /// place is looked up in a hash map.
 pub fn read_arrays(alloc: Global, text: &[u8], declared: &[Declared]) -> Result<Arrays, DataError>
-    requires short { length text.now ≤ 268435456 }
+    requires short { length text.now ≤ longest_arrays }
     requires differ { AllPairs (λ one other. one ≢ other) (map (λ array. array.name) declared.now) }
     ensures read { IfOk result (λ arrays. IsAccepted declared.now arrays text.now) }
     ensures each { IfOk result (λ arrays. length arrays ≡ length declared.now) }
@@ -112,7 +113,7 @@ pub fn read_arrays(alloc: Global, text: &[u8], declared: &[Declared]) -> Result<
 
 /// What becomes of a file: the arrays, or its refusal.
 fn read_once(alloc: Global, text: &[u8], declared: &[Declared]) -> Result<Arrays, DataError>
-    requires short { length text.now ≤ 268435456 }
+    requires short { length text.now ≤ longest_arrays }
     requires differ { AllPairs (λ one other. one ≢ other) (map (λ array. array.name) declared.now) }
     ensures read { IfOk result (λ arrays. outcome_of declared.now text.now
         ≡ Outcome.Accepted arrays) }

@@ -1,4 +1,5 @@
 ghost use Rattle.std.specs.Prelude.{◌≡◌, ◌≤◌, IfOk, length};
+ghost use Rattle.array_text.specs.Limits.{longest_arrays};
 
 use super::*;
 use shapes_core::{Declared, Name, Shape};
@@ -16,7 +17,7 @@ fn declare(rt: &impl Abort, name: &[u8], extents: &[u64]) -> Declared
 
 /// Reads the values of an array A of this shape and of a scalar B.
 fn read(rt: &impl Abort, alloc: Global, text: &[u8], extents: &[u64]) -> Result<Arrays, DataError>
-    requires { length text.now ≤ 268435456 }
+    requires { length text.now ≤ longest_arrays }
     ensures { IfOk result (λ arrays. length arrays ≡ 2) }
 {
     let declared = [declare(rt, b"A", extents), declare(rt, b"B", [].as_slice())];

@@ -13,6 +13,7 @@ use shape_check::Layout;
 use shapes_core::{Area, NoMemory};
 use std::alloc::Global;
 use stride_form::Operational;
+use stride_form::laws::terms_are_over_operands;
 
 /// The line of a job with its operational form, in a block with this layout. An area of which the layout has none
 /// is spelled by no byte. This project's own.
@@ -83,6 +84,7 @@ fn push_piece(
     ensures less { OnOk result (pieces_size (op_forms form.now.terms) (reverse waiting.new.items)
         < pieces_size (op_forms form.now.terms) (reverse (waiting.old.items ++ piece ∷ []))) }
 {
+    terms_are_over_operands();
     match piece {
         Piece::Comma => push_text(out, b", "),
         Piece::Close => push_text(out, b")"),

@@ -1,5 +1,5 @@
--- Words of areas, by a test.
-use Rattle.std.specs.Prelude.{◌≡◌, ℕ, ◌+◌, Bool, true, false, ◌&&◌, nat_le, nat_lt, ℤ, pos, negsuc, List, [], ◌∷◌, slice_get}
+-- What passes the tests of areas is inside them.
+use Rattle.std.specs.Prelude.{◌≡◌, ℕ, ◌+◌, true, nat_le, ℤ, pos, negsuc, List, [], ◌∷◌, slice_get}
 use Rattle.std.specs.List.{AllByRecursion, list_all}
 use Rattle.std.specs.declared.option.Option.{Option}
 use Rattle.std.specs.declared.option.Option.TheVariants.{None, Some}
@@ -7,20 +7,8 @@ use Rattle.std.proofs.Common.{refl}
 use Rattle.std.proofs.lemmas.Bool.{and_parts, false≢true, leb-true, ltb-true}
 use Rattle.shapes_core.specs.declared.area.Area.{Area}
 use Rattle.shapes_core.specs.Shape.{total}
-use Rattle.loop_ir.specs.Inside.{IsInside, IsWordOf}
-use Rattle.loop_ir.specs.Running.{Access, Reads, Writes}
-
-abbrev has_place : Option Area → ℕ → Bool
-has_place None place = false
-has_place (Some area) place = nat_le area.start place && nat_lt place (area.start + total area.shape)
-
-abbrev pub has_word : List Area → ℕ → ℤ → Bool
-has_word areas number (pos place) = has_place (slice_get areas number) place
-has_word areas number (negsuc place) = false
-
-abbrev pub allows : List Area → Access → Bool
-allows areas (Reads area word) = has_word areas area word
-allows areas (Writes area word) = has_word areas area word
+use Rattle.loop_ir.specs.Inside.{IsInside, IsWordOf, allows, has_place, has_word}
+use Rattle.loop_ir.specs.Running.{Access, ReadsWord, WritesWord}
 
 has_place_is_word : (areas : List Area) (number place : ℕ) (found : Option Area) → slice_get areas number ≡ found → has_place found place ≡ true
     → IsWordOf areas number (pos place)
@@ -41,8 +29,8 @@ has_word_is_word areas number (pos place) h = has_place_is_word areas number pla
 has_word_is_word areas number (negsuc place) h = absurd (false≢true h)
 
 allows_is_inside : (areas : List Area) (access : Access) → allows areas access ≡ true → IsInside areas access
-allows_is_inside areas (Reads area word) h = has_word_is_word areas area word h
-allows_is_inside areas (Writes area word) h = has_word_is_word areas area word h
+allows_is_inside areas (ReadsWord area word) h = has_word_is_word areas area word h
+allows_is_inside areas (WritesWord area word) h = has_word_is_word areas area word h
 
 -- where each access passes the test, the trace is inside
 pub allowed_is_inside : (areas : List Area) (trace : List Access) → list_all (allows areas) trace ≡ true → AllByRecursion (IsInside areas) trace

@@ -5,7 +5,7 @@ use Rattle.std.proofs.Common.{refl, ap, ap₂, sym, ◌∙◌, ⊎_elim}
 use Rattle.std.proofs.lemmas.Bool.{and_from, cases_Bool, false≢true, not_from_false, or_left, or_right, true≢false}
 use Rattle.moa_tree.specs.Operators.{apply, apply_unary}
 use Rattle.loop_ir.specs.Needed.{AreAlike, Keys, among, needed, none, reads, sets}
-use Rattle.loop_ir.specs.Running.{Reads, Writes, Key, Register, Pointer, State, acted, counted, holding, is_key, repeated, run, with_word, word_at}
+use Rattle.loop_ir.specs.Running.{ReadsWord, WritesWord, Key, Register, Pointer, State, acted, counted, holding, is_key, repeated, run, with_word, word_at}
 use Rattle.loop_ir.specs.Steps.{Action, Set, Copy, One, Two, Place, Spot, Walk, Read, Write, Steps, End, Then, For, If}
 use Rattle.loop_ir.proofs.KeyLemmas.{first_passes, key-self, needed-same}
 
@@ -100,7 +100,7 @@ acted-alike (Read to area place) after first second h =
     record {
       held = set.held;
       words = h.words;
-      trace = ap₂ (λ word trace. Reads area word ∷ trace) same h.trace;
+      trace = ap₂ (λ word trace. ReadsWord area word ∷ trace) same h.trace;
     }
 acted-alike (Write area place from) after first second h =
     let read = Pointer place ∷ Register from ∷ [] in
@@ -109,7 +109,7 @@ acted-alike (Write area place from) after first second h =
     record {
       held = λ key need. h.held key (or_right (among read key) (after key && true) (and_from (after key) true need refl));
       words = ap₂ (λ put value. put value) (ap₂ with_word h.words place_same) value_same;
-      trace = ap₂ (λ word trace. Writes area word ∷ trace) place_same h.trace;
+      trace = ap₂ (λ word trace. WritesWord area word ∷ trace) place_same h.trace;
     }
 
 -- ---- loops

@@ -1,9 +1,10 @@
 -- A nest in the making, turned round: its trees are those of the making the other way round, and each list names lists behind it.
 use mathlib.Core.List.{reverse_aux}
-use Rattle.std.specs.Prelude.{◌≡◌, ℕ, suc, ◌+◌, ◌-◌, ◌^◌, ◌<◌, ◌≤◌, List, [], ◌∷◌, ◌++◌, length, map, reverse}
+use Rattle.std.specs.Prelude.{◌≡◌, ℕ, suc, ◌+◌, ◌-◌, ◌<◌, ◌≤◌, List, [], ◌∷◌, ◌++◌, length, map, reverse}
 use Rattle.std.specs.List.{AllByRecursion, flat_map}
 use Rattle.std.proofs.Common.{refl, ap, sym, ◌∙◌, subst, arith, append_assoc, length-append}
 use Rattle.std.proofs.lemmas.List.{get_or-reverse, length-map, length-reverse, map-append, reverse-append}
+use Rattle.shapes_core.specs.Limits.{most_items}
 use Rattle.loop_ir.specs.declared.step.Step.{Step}
 use Rattle.loop_ir.specs.declared.step.Step.TheVariants as step
 use Rattle.loop_ir.specs.Kept.{AreBefore, AreBehind, IsMaking, IsNest, KeepsCounters}
@@ -163,7 +164,7 @@ before-taken k (first ∷ lists) list h =
       last = subst (λ n. AllByRecursion (λ inner. inner < n) (flat_map inner_lists list)) sum taken.last;
     }
 
-making-added : (lists : List (List Step)) (list : List Step) → IsMaking lists → length lists < 2 ^ 30
+making-added : (lists : List (List Step)) (list : List Step) → IsMaking lists → length lists < most_items
     → AllByRecursion (λ inner. inner < length lists) (flat_map inner_lists list) → IsMaking (lists ++ list ∷ [])
 making-added lists list making room named =
     let sum : length lists ≡ 0 + length lists = omega arith in
@@ -201,7 +202,7 @@ turning-goes-on count left made whole list h = record {
 module _ {X : Type 0} (steps : X → List Step) where
   -- a list is added
   pub added-making : (lists more : List X) (list : X) (self : List (List Step)) → more ≡ lists ++ list ∷ [] → map steps lists ≡ self
-      → IsMaking (map steps lists) → length lists < 2 ^ 30 → AllByRecursion (λ inner. inner < length self) (flat_map inner_lists (steps list))
+      → IsMaking (map steps lists) → length lists < most_items → AllByRecursion (λ inner. inner < length self) (flat_map inner_lists (steps list))
       → IsMaking (map steps more)
   added-making lists more list self added same making room named =
       let counted : length (map steps lists) ≡ length lists = length-map lists steps in

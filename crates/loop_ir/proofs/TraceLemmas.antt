@@ -4,7 +4,7 @@ use Rattle.std.specs.List.{AllByRecursion}
 use Rattle.std.proofs.Common.{refl, ap, sym, subst, ◌∙◌, append_assoc}
 use Rattle.shapes_core.specs.declared.area.Area.{Area}
 use Rattle.loop_ir.specs.Inside.{IsDefined, IsInside}
-use Rattle.loop_ir.specs.Running.{Access, Reads, Writes, Register, Pointer, State, acted, counted, holding, repeated, run}
+use Rattle.loop_ir.specs.Running.{Access, ReadsWord, WritesWord, Register, Pointer, State, acted, counted, holding, repeated, run}
 use Rattle.loop_ir.specs.Steps.{Action, Set, Copy, One, Two, Place, Spot, Walk, Read, Write, Steps, End, Then, For, If}
 
 -- a trace is one before it, with more accesses in front
@@ -23,8 +23,8 @@ acted-grows (Two op to left right) state = ([], refl)
 acted-grows (Place to word) state = ([], refl)
 acted-grows (Spot to word by) state = ([], refl)
 acted-grows (Walk place words) state = ([], refl)
-acted-grows (Read to area place) state = (Reads area (state.held (Pointer place)) ∷ [], refl)
-acted-grows (Write area place from) state = (Writes area (state.held (Pointer place)) ∷ [], refl)
+acted-grows (Read to area place) state = (ReadsWord area (state.held (Pointer place)) ∷ [], refl)
+acted-grows (Write area place from) state = (WritesWord area (state.held (Pointer place)) ∷ [], refl)
 
 repeated-grows : (turn : State → State) → ((state : State) → Grows state (turn state))
     → (count : ℕ) (state : State) → Grows state (repeated turn count state)

@@ -1,6 +1,7 @@
 -- What nests keep. This project's own.
 use Rattle.std.specs.Prelude.{◌≡◌, ℕ, suc, ◌^◌, ◌<◌, ◌≤◌, false, ◌||◌, List, [], ◌∷◌, length, ⊤}
 use Rattle.std.specs.List.{AllByRecursion, flat_map}
+use Rattle.shapes_core.specs.Limits.{most_items}
 use Rattle.loop_ir.specs.declared.step.Step.{Step}
 use Rattle.loop_ir.specs.Costs.{named}
 use Rattle.loop_ir.specs.Needed.{Keys, among, none, sets}
@@ -39,7 +40,7 @@ AreBehind number count (list ∷ lists) =
 -- a list for the whole is there, and each of its inner lists has a greater number
 pub record IsNest (lists : List (List Step)) : Type 0 where
   pub some : 0 < length lists
-  pub few : length lists ≤ 2 ^ 30
+  pub few : length lists ≤ most_items
   pub behind : AreBehind 0 (length lists) lists
   pub counters : KeepsCounters (tree lists)
 
@@ -50,5 +51,5 @@ AreBefore number (list ∷ lists) = AllByRecursion (λ inner. inner < number) (f
 
 -- and they are few
 pub record IsMaking (lists : List (List Step)) : Type 0 where
-  pub few : length lists ≤ 2 ^ 30
+  pub few : length lists ≤ most_items
   pub before : AreBefore 0 lists

@@ -4,7 +4,7 @@ use Rattle.moa_tree.specs.declared.operator.Op.TheVariants.{Add, Mul}
 use Rattle.shapes_core.specs.declared.area.Area.{Area}
 use Rattle.shapes_core.specs.declared.area.AreaKind.TheVariants.{In, Out}
 use Rattle.loop_ir.specs.Costs.{Prices}
-use Rattle.loop_ir.specs.Running.{Key, Register, Pointer, Reads, State}
+use Rattle.loop_ir.specs.Running.{Key, Register, Pointer, ReadsWord, State}
 use Rattle.loop_ir.specs.Steps.{Set, Two, Place, Walk, Read, Write, Steps, End, Then, For}
 use Rattle.loop_ir.specs.declared.step.Step.{Step}
 use Rattle.loop_ir.specs.declared.step.Step.TheVariants as step
@@ -19,7 +19,7 @@ abbrev pub numbered : State
 numbered = record {
   held = numbered_key;
   words = pos 5 ∷ pos 6 ∷ pos 7 ∷ [];
-  trace = Reads 0 (pos 0) ∷ [];
+  trace = ReadsWord 0 (pos 0) ∷ [];
 }
 
 -- all registers and places hold 99, over these words, before any access

@@ -1,5 +1,5 @@
 -- What nests do, whether or not what they read and write is there. This project's own.
-use Rattle.std.specs.Prelude.{ℕ, zero, suc, ◌==◌, Bool, false, ℤ, pos, negsuc, ◌+ℤ◌, List, ◌∷◌, int_lt, slice_index_or, slice_set, if◌then◌else◌}
+use Rattle.std.specs.Prelude.{ℕ, zero, suc, ◌==◌, Bool, false, ℤ, pos, negsuc, ◌+ℤ◌, List, [], ◌∷◌, int_lt, slice_index_or, slice_set, if◌then◌else◌}
 use Rattle.moa_tree.specs.Operators.{apply, apply_unary}
 use Rattle.loop_ir.specs.Steps.{Action, Set, Copy, One, Two, Place, Spot, Walk, Read, Write, Steps, End, Then, For, If}
 
@@ -15,8 +15,8 @@ is_key _ _ = false
 
 -- an access of an area at a word, counted from the end of the spill words
 pub data Access : Type 0 where
-  Reads : (area : ℕ) → (word : ℤ) → Access
-  Writes : (area : ℕ) → (word : ℤ) → Access
+  ReadsWord : (area : ℕ) → (word : ℤ) → Access
+  WritesWord : (area : ℕ) → (word : ℤ) → Access
 
 -- the numbers that are held, the words of all areas, and the accesses that were made, the last one first
 pub record State : Type 0 where
@@ -53,13 +53,13 @@ acted (Spot to word by) state = holding (Pointer to) (word +ℤ state.held (Regi
 acted (Walk place words) state = holding (Pointer place) (state.held (Pointer place) +ℤ words) state
 acted (Read to area place) state =
     let word = state.held (Pointer place) in
-    made (Reads area word) (holding (Register to) (word_at state.words word) state)
+    made (ReadsWord area word) (holding (Register to) (word_at state.words word) state)
 acted (Write area place from) state =
     let word = state.held (Pointer place) in
     record {
       held = state.held;
       words = with_word state.words word (state.held (Register from));
-      trace = Writes area word ∷ state.trace;
+      trace = WritesWord area word ∷ state.trace;
     }
 
 -- so many turns, the last one outermost
@@ -78,3 +78,8 @@ run (Then action rest) state = run rest (acted action state)
 run (For counter turns body rest) state =
     run rest (repeated (λ before. counted counter (run body before)) turns (holding (Register counter) (pos 0) state))
 run (If left below one other rest) state = run rest (if int_lt (state.held (Register left)) below then run one state else run other state)
+
+-- nests, one after another
+abbrev pub run_all : List Steps → State → State
+run_all [] state = state
+run_all (nest ∷ nests) state = run_all nests (run nest state)

@@ -1,10 +1,10 @@
 // Laws of what nests do and need, as clauses of functions that do nothing.
-ghost use Rattle.std.specs.Prelude.{◌≡◌, ◌+◌, ◌++◌, ◌<◌, ℕ, List, Some, length, slice_get, true, false};
-ghost use Rattle.std.specs.List.{AllByRecursion, flat_map};
+ghost use Rattle.std.specs.Prelude.{◌≡◌, ◌+◌, ◌++◌, ◌<◌, ℕ, ℤ, List, Some, length, slice_get, true, false};
+ghost use Rattle.std.specs.List.{AllByRecursion, flat_map, list_all};
 ghost use Rattle.shapes_core.specs.declared.area.Area.{Area};
 ghost use Rattle.loop_ir.specs.Costs.{Prices, cost, time};
 ghost use Rattle.loop_ir.specs.Fitting.{HoldsFit, SetsFit};
-ghost use Rattle.loop_ir.specs.Inside.{IsDefined};
+ghost use Rattle.loop_ir.specs.Inside.{IsDefined, IsInside, IsWordOf, allows, has_word};
 ghost use Rattle.loop_ir.specs.declared.step.Step.{Step};
 ghost use Rattle.loop_ir.specs.Kept.{EachNamed, IsNest, KeepsCounters, may_set};
 ghost use Rattle.loop_ir.specs.Needed.{AreAlike, Keys, needed};
@@ -29,6 +29,13 @@ pub fn lists_join()
 pub fn traces_grow()
     ensures grow { (steps : Steps) (state : State) → (more : List Access) × ((run steps state).trace ≡ more ++ state.trace) }
     ensures defined { (areas : List Area) (steps : Steps) (state : State) → IsDefined areas (run steps state) → IsDefined areas state }
+{}
+
+/// The tests of areas show what is inside: a word that passes is of its area, and a trace each of whose accesses passes is inside.
+pub fn tests_show_what_is_inside()
+    ensures word { (areas : List Area) (number : ℕ) (word : ℤ) → has_word areas number word ≡ true → IsWordOf areas number word }
+    ensures trace { (areas : List Area) (trace : List Access) → list_all (allows areas) trace ≡ true
+        → AllByRecursion (IsInside areas) trace }
 {}
 
 /// What is needed decides: steps lead from states that are alike in what is needed before them to states that are alike in

@@ -6,12 +6,9 @@ ghost use Rattle.loop_ir.specs.Pool.{inner_lists, renumbered, tree, tree_at, tre
 
 use crate::nest::Nest;
 use crate::step::Step;
-use shapes_core::NoMemory;
+use shapes_core::{MOST_ITEMS, NoMemory};
 use std::alloc::Global;
 use std::marker::Model;
-
-/// The most lists of a nest.
-const MOST_LISTS: usize = 1 << 30;
 
 /// Lists of steps, each of which names lists that were added before it.
 #[derive(Drop)]
@@ -48,7 +45,7 @@ impl Lists {
         ensures kept { OnErr result (self.new ≡ self.old) }
     {
         let number = self.lists.len();
-        if number >= MOST_LISTS {
+        if number >= MOST_ITEMS {
             return Err(NoMemory);
         }
         self.lists.push(list)?;

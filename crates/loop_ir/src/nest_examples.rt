@@ -5,12 +5,12 @@ ghost use Rattle.moa_tree.specs.declared.operator.Unary.TheVariants as unary;
 ghost use Rattle.loop_ir.specs.declared.step.Step.TheVariants as step;
 ghost use Rattle.loop_ir.specs.Costs.{action_cost, choice_cost, cost, loop_cost, time};
 ghost use Rattle.loop_ir.specs.Fitting.{HoldsFit, SetsFit};
-ghost use Rattle.loop_ir.specs.Inside.{IsDefined, IsWordOf};
+ghost use Rattle.loop_ir.specs.Inside.{IsDefined, IsWordOf, has_word};
 ghost use Rattle.loop_ir.specs.Kept.{EachNamed, IsMaking, IsNest, KeepsCounters, may_set};
 ghost use Rattle.loop_ir.specs.Needed.{AreAlike, among, needed, none};
 ghost use Rattle.loop_ir.specs.NestExamples.{fresh, matrix_areas, near, numbered, product_keys, product_making, product_nest, product_start, product_tree, element_tree, row_tree, spilled, sum_nest, sum_start, sum_tree, term_tree, vector_areas, weighed};
 ghost use Rattle.loop_ir.specs.Pool.{tree, trees, turned};
-ghost use Rattle.loop_ir.specs.Running.{Key, Pointer, Reads, Register, Writes, acted, holding, repeated, run};
+ghost use Rattle.loop_ir.specs.Running.{Key, Pointer, ReadsWord, Register, WritesWord, acted, holding, repeated, run, run_all};
 ghost use Rattle.loop_ir.specs.Steps.{Copy, End, For, If, One, Place, Read, Set, Spot, Then, Two, Walk, Write};
 
 /// An action changes the register or the place that it sets. A read and a write are accesses of
@@ -35,17 +35,17 @@ pub fn acts()
     ensures walk { let after = acted (Walk 2 (negsuc 2)) numbered in (after.held (Pointer 2) ≡ negsuc 0)
         × (after.words ≡ numbered.words) × (after.trace ≡ numbered.trace) }
     ensures read { let after = acted (Read 1 4 2) numbered in (after.held (Register 1) ≡ pos 7)
-        × (after.words ≡ numbered.words) × (after.trace ≡ Reads 4 (pos 2) ∷ Reads 0 (pos 0) ∷ []) }
+        × (after.words ≡ numbered.words) × (after.trace ≡ ReadsWord 4 (pos 2) ∷ ReadsWord 0 (pos 0) ∷ []) }
     ensures read_behind { let after = acted (Read 1 4 3) numbered in (after.held (Register 1) ≡ pos 0)
-        × (after.trace ≡ Reads 4 (pos 3) ∷ Reads 0 (pos 0) ∷ []) }
+        × (after.trace ≡ ReadsWord 4 (pos 3) ∷ ReadsWord 0 (pos 0) ∷ []) }
     ensures read_before { let after = acted (Read 1 4 2) (acted (Walk 2 (negsuc 2)) numbered) in (after.held (Register 1) ≡ pos 0)
-        × (after.trace ≡ Reads 4 (negsuc 0) ∷ Reads 0 (pos 0) ∷ []) }
+        × (after.trace ≡ ReadsWord 4 (negsuc 0) ∷ ReadsWord 0 (pos 0) ∷ []) }
     ensures write { let after = acted (Write 4 1 2) numbered in (after.held (Register 2) ≡ pos 20)
-        × (after.words ≡ pos 5 ∷ pos 20 ∷ pos 7 ∷ []) × (after.trace ≡ Writes 4 (pos 1) ∷ Reads 0 (pos 0) ∷ []) }
+        × (after.words ≡ pos 5 ∷ pos 20 ∷ pos 7 ∷ []) × (after.trace ≡ WritesWord 4 (pos 1) ∷ ReadsWord 0 (pos 0) ∷ []) }
     ensures write_behind { let after = acted (Write 4 3 2) numbered in (after.words ≡ numbered.words)
-        × (after.trace ≡ Writes 4 (pos 3) ∷ Reads 0 (pos 0) ∷ []) }
+        × (after.trace ≡ WritesWord 4 (pos 3) ∷ ReadsWord 0 (pos 0) ∷ []) }
     ensures write_before { let after = acted (Write 4 2 1) (acted (Walk 2 (negsuc 2)) numbered) in (after.words ≡ numbered.words)
-        × (after.trace ≡ Writes 4 (negsuc 0) ∷ Reads 0 (pos 0) ∷ []) }
+        × (after.trace ≡ WritesWord 4 (negsuc 0) ∷ ReadsWord 0 (pos 0) ∷ []) }
 {}
 
 /// A loop sets its counter to 0 and adds 1 after each turn, and makes its turns whatever becomes
@@ -75,6 +75,12 @@ pub fn choices()
         ≡ pos 30 }
 {}
 
+/// Nests are done one after another, from the first on.
+pub fn nests_follow_one_another()
+    ensures in_order { (run_all (Then (Set 1 (pos 4)) End ∷ Then (Copy 2 1) End ∷ []) numbered).held (Register 2) ≡ pos 4 }
+    ensures other_order { (run_all (Then (Copy 2 1) End ∷ Then (Set 1 (pos 4)) End ∷ []) numbered).held (Register 2) ≡ pos 10 }
+{}
+
 /// The sum of the vectors 1 2 3 and 10 20 30 in one block: list 0 sets a place for each area and
 /// does list 1 three times, which reads an element of both, writes their sum and walks on. Each
 /// access is inside its area.
@@ -84,9 +90,9 @@ pub fn sums_two_vectors()
         ≡ pos 1 ∷ pos 2 ∷ pos 3 ∷ pos 10 ∷ pos 20 ∷ pos 30 ∷ pos 11 ∷ pos 22 ∷ pos 33 ∷ [] }
     ensures accesses { length (run sum_tree sum_start).trace ≡ 9 }
     ensures trace { (run sum_tree sum_start).trace
-        ≡ Writes 2 (pos 8) ∷ Reads 1 (pos 5) ∷ Reads 0 (pos 2)
-        ∷ Writes 2 (pos 7) ∷ Reads 1 (pos 4) ∷ Reads 0 (pos 1)
-        ∷ Writes 2 (pos 6) ∷ Reads 1 (pos 3) ∷ Reads 0 (pos 0) ∷ [] }
+        ≡ WritesWord 2 (pos 8) ∷ ReadsWord 1 (pos 5) ∷ ReadsWord 0 (pos 2)
+        ∷ WritesWord 2 (pos 7) ∷ ReadsWord 1 (pos 4) ∷ ReadsWord 0 (pos 1)
+        ∷ WritesWord 2 (pos 6) ∷ ReadsWord 1 (pos 3) ∷ ReadsWord 0 (pos 0) ∷ [] }
     ensures inside { IsDefined vector_areas (run sum_tree sum_start) }
     ensures last_place { (run sum_tree sum_start).held (Pointer 5) ≡ pos 9 }
 {}
@@ -113,6 +119,9 @@ pub fn areas_have_their_words()
     ensures behind { IsWordOf vector_areas 1 (pos 6) → ⊥ }
     ensures negative { IsWordOf vector_areas 0 (negsuc 0) → ⊥ }
     ensures no_area { IsWordOf vector_areas 3 (pos 0) → ⊥ }
+    ensures tested { map (has_word vector_areas 1) (pos 2 ∷ pos 3 ∷ pos 5 ∷ pos 6 ∷ negsuc 0 ∷ [])
+        ≡ false ∷ true ∷ true ∷ false ∷ false ∷ [] }
+    ensures no_area_tested { has_word vector_areas 3 (pos 0) ≡ false }
     ensures read { IsDefined vector_areas (run (Then (Place 3 (pos 3)) (Then (Read 1 0 3) (Then (Read 1 1 3) End))) sum_start) → ⊥ }
     ensures write { IsDefined vector_areas (run (Then (Place 3 (pos 3)) (Then (Write 2 3 1) (Then (Write 1 3 1) End))) sum_start) → ⊥ }
 {}

@@ -1,9 +1,10 @@
 -- Pools in the making stay so when something is added, and are those of a program once nothing is left without use.
-use Rattle.std.specs.Prelude.{◌≡◌, ℕ, ◌+◌, ◌<◌, ◌≤◌, ◌^◌, ◌==◌, ℤ, Bool, true, false, cond, nat_le, nat_lt, List, [], ◌∷◌, ◌++◌, length, slice_index_or, All}
+use Rattle.std.specs.Prelude.{◌≡◌, ℕ, ◌+◌, ◌<◌, ◌≤◌, ◌==◌, ℤ, Bool, true, false, cond, nat_le, nat_lt, List, [], ◌∷◌, ◌++◌, length, slice_index_or, All}
 use Rattle.std.specs.List.{AllByRecursion, count_by, flat_map}
 use Rattle.std.proofs.Common.{refl, ap, ◌∙◌, arith, inl, inr, length-append}
 use Rattle.std.proofs.Math.Bool.{and-false}
 use Rattle.std.proofs.lemmas.Bool.{cases_eq, cases_lt, eq-eqb, le-ltb, lt-leb, ne_eqb}
+use Rattle.shapes_core.specs.Limits.{most_items}
 use Rattle.text_tokens.specs.declared.token.Position.{Position}
 use Rattle.moa_tree.specs.declared.tree.Node.{Node}
 use Rattle.moa_tree.specs.declared.tree.Numbers.{Numbers}
@@ -211,7 +212,7 @@ open_list roots lists old new values list added start end h =
 
 -- where nothing is left without use
 pub closed_program : (pools : Pools) → IsOpen [] [] pools → Reads (canonical (tree_of pools)) (tree_of pools)
-    → length pools.nodes ≤ 2 ^ 30 → length pools.numbers ≤ 2 ^ 30 → length pools.statements ≤ 2 ^ 30 → IsProgram pools
+    → length pools.nodes ≤ most_items → length pools.numbers ≤ most_items → length pools.statements ≤ most_items → IsProgram pools
 closed_program pools h reads nodes numbers statements = record {
   placed = h.placed;
   ordered = h.ordered;

@@ -3,6 +3,7 @@ pub mod Forms
 pub mod Frames
 pub mod Heads
 pub mod Lexemes
+pub mod Limits
 pub mod Lists
 pub mod Outcomes
 pub mod Printed

@@ -8,6 +8,7 @@ mod forms;
 mod frames;
 mod growth;
 mod heads;
+mod limits;
 mod lists;
 mod parts;
 mod pools;
@@ -18,5 +19,6 @@ mod statements;
 mod words;
 
 pub use error::ReadError;
+pub use limits::LONGEST_SOURCE;
 pub use printer::print;
 pub use reading::read;

@@ -1,5 +1,6 @@
 // The pools of a program that is being read.
 ghost use Rattle.std.specs.Prelude.{◌≡◌, ◌+◌, ◌-◌, ◌≤◌, [], ◌∷◌, length, IfOk, OnOk};
+ghost use Rattle.shapes_core.specs.Limits.{most_items};
 ghost use Rattle.moa_tree.specs.Canonical.{canonical};
 ghost use Rattle.moa_tree.specs.Pool.{expr_of, trees};
 ghost use Rattle.moa_tree.specs.Pools.{tree_of};
@@ -8,13 +9,10 @@ ghost use Rattle.moa_reader.specs.Build.{IsOpen, no_pools, with_node, with_numbe
 ghost use Rattle.moa_reader.specs.Frames.{tree_in};
 
 use moa_tree::{Node, Numbers, Program, Statement, Version, what_is_added};
-use shapes_core::NoMemory;
+use shapes_core::{MOST_ITEMS, NoMemory};
 use std::alloc::Global;
 use std::marker::Model;
 use text_tokens::Position;
-
-/// The greatest number of items in a pool.
-const MOST: usize = 1 << 30;
 
 /// The version of a program, and the nodes, numbers and statements that were read so far.
 #[derive(Drop)]
@@ -28,13 +26,14 @@ pub(crate) struct Builder {
 
 impl Model for Builder {
     ghost use Rattle.std.specs.Prelude.{◌≤◌, ◌^◌, length};
+    ghost use Rattle.shapes_core.specs.Limits.{most_items};
     ghost use Rattle.moa_tree.specs.Pools.{Pools};
 
     ghost Value = { Pools };
 
     ghost view = { λ b. record { version = b.version; nodes = b.nodes.items; positions = b.positions.items; numbers = b.numbers.items; statements = b.statements.items } };
 
-    ghost invariant = { λ b. (length b.nodes.items ≤ 2 ^ 30) × (length b.numbers.items ≤ 2 ^ 30) × (length b.statements.items ≤ 2 ^ 30) };
+    ghost invariant = { λ b. (length b.nodes.items ≤ most_items) × (length b.numbers.items ≤ most_items) × (length b.statements.items ≤ most_items) };
 }
 
 impl Builder {
@@ -55,11 +54,11 @@ impl Builder {
         ensures added { OnOk result (self.new ≡ with_node self.old node at) }
         ensures number { IfOk result (λ number. number ≡ length self.old.nodes) }
         ensures tree { IfOk result (λ number. tree_in self.new number ≡ expr_of self.old.numbers (trees self.old.numbers self.old.nodes) node) }
-        ensures few { OnOk result (length self.new.nodes ≤ 1073741824) }
+        ensures few { OnOk result (length self.new.nodes ≤ most_items) }
     {
         what_is_added();
         let number = self.nodes.len();
-        if number >= MOST {
+        if number >= MOST_ITEMS {
             return Err(NoMemory);
         }
         self.positions.push(at)?;
@@ -70,7 +69,7 @@ impl Builder {
     /// Where a list begins whose numbers are added next.
     pub(crate) fn list(&self) -> usize
         ensures value { result ≡ length self.now.numbers }
-        ensures few { length self.now.numbers ≤ 1073741824 }
+        ensures few { length self.now.numbers ≤ most_items }
     {
         self.numbers.len()
     }
@@ -79,7 +78,7 @@ impl Builder {
     pub(crate) fn number(&mut self, value: i64) -> Result<(), NoMemory>
         ensures added { OnOk result (self.new ≡ with_numbers self.old (value ∷ [])) }
     {
-        if self.numbers.len() >= MOST {
+        if self.numbers.len() >= MOST_ITEMS {
             return Err(NoMemory);
         }
         self.numbers.push(value)?;
@@ -90,7 +89,7 @@ impl Builder {
     pub(crate) fn list_from(&self, start: usize) -> Numbers
         requires { start ≤ length self.now.numbers }
         ensures value { result ≡ record { start = start; count = length self.now.numbers - start } }
-        ensures few { length self.now.numbers ≤ 1073741824 }
+        ensures few { length self.now.numbers ≤ most_items }
     {
         let len = self.numbers.len();
         Numbers {
@@ -102,7 +101,7 @@ impl Builder {
     pub(crate) fn statement(&mut self, statement: Statement) -> Result<(), NoMemory>
         ensures added { OnOk result (self.new ≡ with_statement self.old statement) }
     {
-        if self.statements.len() >= MOST {
+        if self.statements.len() >= MOST_ITEMS {
             return Err(NoMemory);
         }
         self.statements.push(statement)?;

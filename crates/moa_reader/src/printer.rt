@@ -13,7 +13,7 @@ ghost use Rattle.moa_reader.specs.Lexemes.{lexeme_of_word};
 
 use crate::words::Word;
 use itoa::Buffer;
-use moa_tree::{Node, Numbers, Op, Program, Statement, node_trees, parts_are_there};
+use moa_tree::{Node, Numbers, Op, Operands, Program, Statement, node_trees, parts_are_there};
 use shapes_core::{Name, NoMemory};
 use std::alloc::Global;
 
@@ -124,26 +124,12 @@ fn print_expression(
 fn push_operands(waiting: &mut Vec<u32>, node: &Node) -> Result<(), NoMemory>
     ensures { OnOk result (waiting.new.items ≡ waiting.old.items ++ reverse (operands node.now)) }
 {
-    match node {
-        Node::Number(_) | Node::Use(_) | Node::Iota(_) => {}
-        Node::One { of, .. }
-        | Node::Psi { of, .. }
-        | Node::Take { of, .. }
-        | Node::Drop { of, .. }
-        | Node::Reverse { of }
-        | Node::Rotate { of, .. }
-        | Node::Transpose { of }
-        | Node::Permute { of, .. }
-        | Node::Reshape { of, .. }
-        | Node::Ravel { of }
-        | Node::Reduce { of, .. }
-        | Node::Scan { of, .. } => waiting.push(*of)?,
-        Node::Two { left, right, .. }
-        | Node::Cat { left, right }
-        | Node::Outer { left, right, .. }
-        | Node::Inner { left, right, .. } => {
-            waiting.push(*right)?;
-            waiting.push(*left)?;
+    match node.operands() {
+        Operands::None => {}
+        Operands::One(of) => waiting.push(of)?,
+        Operands::Two(left, right) => {
+            waiting.push(right)?;
+            waiting.push(left)?;
         }
     }
     Ok(())

@@ -1,5 +1,6 @@
 // The program of a text.
 ghost use Rattle.std.specs.Prelude.{◌≡◌, ◌<◌, ◌≤◌, ◌≢◌, ℕ, Err, IfErr, IfOk, length};
+ghost use Rattle.moa_reader.specs.Limits.{longest_source};
 ghost use Rattle.text_tokens.specs.declared.token.Position.{Position};
 ghost use Rattle.moa_tree.specs.Expr.{Tree};
 ghost use Rattle.moa_tree.specs.Pools.{tree_of};
@@ -21,7 +22,7 @@ use text_tokens::{Scanner, Token};
 /// is never refused, and one that is refused never read: only memory may be wanting. Each node of the program has the
 /// position of the word or the number with which its expression begins in the text, and each statement that of its name.
 pub fn read(alloc: Global, text: &[u8]) -> Result<Program, ReadError>
-    requires { length text.now ≤ 1048576 }
+    requires { length text.now ≤ longest_source }
     ensures read { IfOk result (λ program. Reads text.now (tree_of program)) }
     ensures refused { (at : Position) (cause : ℕ) → result ≡ Err (ReadError.Text at cause) → IsRefused text.now at cause }
     ensures reading { (tree : Tree) → Reads text.now tree → IfOk result (λ program. tree_of program ≡ tree) }
@@ -38,7 +39,7 @@ pub fn read(alloc: Global, text: &[u8]) -> Result<Program, ReadError>
 }
 
 fn read_once(alloc: Global, text: &[u8]) -> Result<Program, ReadError>
-    requires { length text.now ≤ 1048576 }
+    requires { length text.now ≤ longest_source }
     ensures read { IfOk result (λ program. Reads text.now (tree_of program)) }
     ensures placed { IfOk result (λ program. StandsIn text.now program) }
     ensures refused { IfErr result (λ error. Explains text.now error) }

@@ -12,7 +12,7 @@ use Rattle.moa_tree.specs.declared.tree.Version.TheVariants.{First}
 use Rattle.moa_tree.specs.Expr.{Tree}
 use Rattle.moa_tree.specs.Readings.{ReadsProgram}
 use Rattle.moa_tree.specs.Vocabulary.{Lexeme, lexemes_of, reserved, version_among, version_number, version_numbered, word_among}
-use Rattle.moa_tree.proofs.Ends.{word_not}
+use Rattle.moa_tree.proofs.EndLemmas.{word_not}
 
 pub numbered : (version : Version) → version_numbered (version_number version) ≡ Some version
 numbered First = refl

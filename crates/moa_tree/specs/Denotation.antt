@@ -29,14 +29,14 @@ abbrev pub computed : Env → Expr → Known
 computed env expr = record { shape = shape_in env expr; at = value env expr }
 
 -- the names after a statement
-abbrev pub after : Store → Env → Item → Env
-after inputs env (Input name extents) = (name, stored (naturals extents) (beside [] inputs name)) ∷ env
-after inputs env (Let name of) = (name, computed env of) ∷ env
-after inputs env (Output name of) = (name, stored (shape_in env of) (output_list env of)) ∷ env
+abbrev pub env_after : Store → Env → Item → Env
+env_after inputs env (Input name extents) = (name, stored (naturals extents) (beside [] inputs name)) ∷ env
+env_after inputs env (Let name of) = (name, computed env of) ∷ env
+env_after inputs env (Output name of) = (name, stored (shape_in env of) (output_list env of)) ∷ env
 
 -- the names after these statements
-abbrev pub after_all : Store → Env → List Item → Env
-after_all inputs env items = fold (after inputs) env items
+abbrev pub env_after_all : Store → Env → List Item → Env
+env_after_all inputs env items = fold (env_after inputs) env items
 
 -- the outputs of one statement
 abbrev pub outputs_of : Env → Item → Store
@@ -47,7 +47,7 @@ outputs_of env (Output name of) = (name, output_list env of) ∷ []
 -- the outputs of these statements, in order
 abbrev pub denote_from : Store → Env → List Item → Store
 denote_from inputs env [] = []
-denote_from inputs env (item ∷ items) = outputs_of env item ++ denote_from inputs (after inputs env item) items
+denote_from inputs env (item ∷ items) = outputs_of env item ++ denote_from inputs (env_after inputs env item) items
 
 -- the outputs of a program on its inputs, in order
 abbrev pub denote : Tree → Store → Store
@@ -62,7 +62,7 @@ scans_of (Output name of) = scans_in of
 -- the lists of the scans of these statements, in order
 abbrev pub denote_scans_from : Store → Env → List Item → List (List ℤ)
 denote_scans_from inputs env [] = []
-denote_scans_from inputs env (item ∷ items) = map (values env) (scans_of item) ++ denote_scans_from inputs (after inputs env item) items
+denote_scans_from inputs env (item ∷ items) = map (values env) (scans_of item) ++ denote_scans_from inputs (env_after inputs env item) items
 
 -- the denoted list of each scan of a program, by its number
 abbrev pub denote_scans : Tree → Store → List (List ℤ)

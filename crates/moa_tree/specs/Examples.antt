@@ -1,11 +1,12 @@
 -- How the worked examples are written: inputs A and B, an output C, numbers as they stand in a text, programs, and refusals.
+-- This project's own.
 use Rattle.std.specs.Prelude.{ℕ, ℤ, List, [], ◌∷◌, ◌++◌, codes}
 use Rattle.text_tokens.specs.declared.token.Token.{Token}
 use Rattle.text_tokens.specs.declared.token.Token.TheVariants.{Word, LongWord, Number, OutOfRange, Sign, Malformed, End}
 use Rattle.text_tokens.specs.Tokens.{tokens_only}
 use Rattle.moa_tree.specs.declared.tree.Version.TheVariants.{First}
 use Rattle.moa_tree.specs.Axes.{naturals}
-use Rattle.moa_tree.specs.Denotation.{Store, after_all, denote}
+use Rattle.moa_tree.specs.Denotation.{Store, env_after_all, denote}
 use Rattle.moa_tree.specs.Expr.{Expr, Use, Item, Input, Output, Tree}
 use Rattle.moa_tree.specs.Outcome.{Outcome}
 use Rattle.moa_tree.specs.ShapeOf.{beside}
@@ -45,7 +46,7 @@ array extents list = (naturals (numbers extents), numbers list)
 -- the array that output C gets after some statements
 abbrev pub output : Store → List Item → Expr → List ℕ × List ℤ
 output inputs items expr =
-    (shape_in (after_all inputs [] items) expr, beside [] (denote (program (items ++ Output (codes "C") expr ∷ [])) inputs) (codes "C"))
+    (shape_in (env_after_all inputs [] items) expr, beside [] (denote (program (items ++ Output (codes "C") expr ∷ [])) inputs) (codes "C"))
 
 -- the array of `out C` where A and B are inputs of these extents and lists
 abbrev pub with_two : String → String → String → String → Expr → List ℕ × List ℤ

@@ -115,8 +115,8 @@ next (Want.AnOp ∷ wants) lexeme = on_op wants lexeme
 next (Want.Never ∷ wants) lexeme = stuck
 
 -- what is wanted behind these lexemes
-abbrev pub after : List Want → List Lexeme → List Want
-after wants lexemes = fold next wants lexemes
+abbrev pub wants_after : List Want → List Lexeme → List Want
+wants_after wants lexemes = fold next wants lexemes
 
 -- what a text wants
 abbrev pub at_start : List Want

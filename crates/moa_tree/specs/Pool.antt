@@ -4,6 +4,8 @@ use Rattle.std.specs.List.{AllByRecursion, flat_map}
 use Rattle.moa_tree.specs.declared.tree.Node.{Node}
 use Rattle.moa_tree.specs.declared.tree.Node.TheVariants as node
 use Rattle.moa_tree.specs.declared.tree.Numbers.{Numbers}
+use Rattle.moa_tree.specs.declared.tree.Operands.{Operands}
+use Rattle.moa_tree.specs.declared.tree.Operands.TheVariants as operand
 use Rattle.moa_tree.specs.declared.tree.Statement.{Statement}
 use Rattle.moa_tree.specs.declared.tree.Statement.TheVariants as statement
 use Rattle.moa_tree.specs.Expr.{Expr, Number, Use, Iota, One, Two, Psi, Take, Drop, Reverse, Rotate, Transpose, Permute, Cat, Reshape, Ravel, Outer, Inner, Reduce, Scan, Item, Input, Let, Output}
@@ -82,6 +84,12 @@ operands (node.Outer op left right) = left ∷ right ∷ []
 operands (node.Inner fold op left right) = left ∷ right ∷ []
 operands (node.Reduce fold of) = of ∷ []
 operands (node.Scan fold of) = of ∷ []
+
+-- these operands as a list
+abbrev pub listed : Operands → List ℕ
+listed operand.None = []
+listed (operand.One of) = of ∷ []
+listed (operand.Two left right) = left ∷ right ∷ []
 
 -- every operand of a node has a smaller number than the node
 abbrev pub IsOrdered : List Node → Type 0

@@ -1,4 +1,4 @@
--- Pools of the worked examples.
+-- Pools of the worked examples. This project's own.
 use Rattle.std.specs.Prelude.{ℕ, ◌-◌, pos, List, [], ◌∷◌, map, length, codes}
 use Rattle.std.specs.List.{range_with_len}
 use Rattle.text_tokens.specs.declared.token.Position.{Position}

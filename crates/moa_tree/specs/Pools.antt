@@ -1,6 +1,7 @@
 -- What a program keeps of its pools. This project's own.
-use Rattle.std.specs.Prelude.{◌≡◌, ℕ, ◌+◌, ◌^◌, ◌<◌, ◌≤◌, Bool, nat_le, nat_lt, ◌&&◌, ◌==◌, ℤ, List, [], ◌∷◌, ◌++◌, length, All}
+use Rattle.std.specs.Prelude.{◌≡◌, ℕ, ◌+◌, ◌<◌, ◌≤◌, Bool, nat_le, nat_lt, ◌&&◌, ◌==◌, ℤ, List, [], ◌∷◌, ◌++◌, length, All}
 use Rattle.std.specs.List.{AllByRecursion, count_by, flat_map}
+use Rattle.shapes_core.specs.Limits.{most_items}
 use Rattle.text_tokens.specs.declared.token.Position.{Position}
 use Rattle.moa_tree.specs.declared.tree.Node.{Node}
 use Rattle.moa_tree.specs.declared.tree.Node.TheVariants as node
@@ -76,6 +77,6 @@ pub record IsProgram (pools : Pools) : Type 0 where
   pub each_once : (number : ℕ) → number < length pools.nodes → count_by (λ other. other == number) (references pools) ≡ 1
   pub lists_apart : (place : ℕ) → count_by (λ list. covers list place) (all_lists pools) ≤ 1
   pub reads : Reads (canonical (tree_of pools)) (tree_of pools)
-  pub few_nodes : length pools.nodes ≤ 2 ^ 30
-  pub few_numbers : length pools.numbers ≤ 2 ^ 30
-  pub few_statements : length pools.statements ≤ 2 ^ 30
+  pub few_nodes : length pools.nodes ≤ most_items
+  pub few_numbers : length pools.numbers ≤ most_items
+  pub few_statements : length pools.statements ≤ most_items

@@ -46,11 +46,11 @@ abbrev pub IsTooDeep : List Lexeme → Type 0
 IsTooDeep before = BeginsAt (suc deepest) before
 
 -- the words after which a name stands
-abbrev pub names : Lexeme → Bool
-names Lexeme.In = true
-names Lexeme.Let = true
-names Lexeme.Out = true
-names _ = false
+abbrev pub takes_name : Lexeme → Bool
+takes_name Lexeme.In = true
+takes_name Lexeme.Let = true
+takes_name Lexeme.Out = true
+takes_name _ = false
 
 -- the words after which a number stands
 abbrev pub counts : Lexeme → Bool
@@ -77,7 +77,7 @@ pub data Wants : List Lexeme → Lexeme → ℕ → Type 0 where
   version_number : (next : Lexeme) → Wants (Lexeme.Psi ∷ []) next 4
   statement : (front : List Lexeme) (next : Lexeme) → MayFollow front Lexeme.In → is_end next ≡ false → Wants front next 5
   output : (front : List Lexeme) → MayFollow front Lexeme.In → Wants front Lexeme.End 6
-  name : (front : List Lexeme) (word next : Lexeme) → IsTrue (names word) → Wants (front ++ word ∷ []) next 7
+  name : (front : List Lexeme) (word next : Lexeme) → IsTrue (takes_name word) → Wants (front ++ word ∷ []) next 7
   equal : (front : List Lexeme) (next : Lexeme) → MayFollow front (Lexeme.Sign sign.Equal) → Wants front next 8
   expression : (front : List Lexeme) (next : Lexeme) → MayFollow front (Lexeme.Sign sign.Open) → Wants front next 9
   close : (front : List Lexeme) (next : Lexeme) → MayFollow front (Lexeme.Sign sign.Close) → Wants front next 10

@@ -26,8 +26,7 @@ pub use reading_laws::{
     canonical_reads, fronts, never_both, one_reading, one_refusal, outcomes, read_or_refused,
     reads_again,
 };
-pub use text_tokens::Position;
-pub use tree::{Job, Node, Numbers, Statement, Version};
+pub use tree::{Job, Node, Numbers, Operands, Statement, Version};
 pub use tree_examples::{pool_examples, position_examples, program_pools, walk_examples};
 pub use tree_laws::{node_trees, walks_in_order};
 pub use value_examples::{

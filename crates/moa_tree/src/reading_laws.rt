@@ -3,7 +3,7 @@ ghost use Rattle.std.specs.Prelude.{◌≡◌, ℕ, List, IsTrue, [], ◌∷◌,
 ghost use Rattle.std.specs.List.{AllByRecursion};
 ghost use Rattle.text_tokens.specs.declared.token.Position.{Position};
 ghost use Rattle.moa_tree.specs.Canonical.{IsWritable, canonical};
-ghost use Rattle.moa_tree.specs.Expected.{Want, after, at_start, cause_of, stuck};
+ghost use Rattle.moa_tree.specs.Expected.{Want, wants_after, at_start, cause_of, stuck};
 ghost use Rattle.moa_tree.specs.Expr.{Tree};
 ghost use Rattle.moa_tree.specs.Outcome.{Outcome, outcome_of};
 ghost use Rattle.moa_tree.specs.Readings.{Reads, ReadsProgram, has_output};
@@ -15,14 +15,14 @@ use text_tokens::laws::{printed_names, printed_numbers, values_fit};
 /// What a front is, and what is wanted behind it, is decided from the left: by a stack of what is still wanted.
 pub fn fronts()
     ensures read { (list : List Lexeme)
-        → (after at_start list ≡ []) ↔ ((levels : ℕ) × (tree : Tree) × ReadsProgram levels list tree) }
-    ensures front { (list : List Lexeme) → IsFront list ↔ (after at_start list ≢ stuck) }
+        → (wants_after at_start list ≡ []) ↔ ((levels : ℕ) × (tree : Tree) × ReadsProgram levels list tree) }
+    ensures front { (list : List Lexeme) → IsFront list ↔ (wants_after at_start list ≢ stuck) }
     ensures depth { (depth : ℕ) (list : List Lexeme)
-        → BeginsAt depth list ↔ ((wants : List Want) × (after at_start list ≡ Want.AnExpr depth ∷ wants)) }
+        → BeginsAt depth list ↔ ((wants : List Want) × (wants_after at_start list ≡ Want.AnExpr depth ∷ wants)) }
     ensures cause { (front : List Lexeme) (next : Lexeme) (cause : ℕ)
-        → IsFront front → Wants front next cause → cause_of (after at_start front) next ≡ cause }
+        → IsFront front → Wants front next cause → cause_of (wants_after at_start front) next ≡ cause }
     ensures wants { (front : List Lexeme) (next : Lexeme)
-        → IsFront front → after at_start front ≢ [] → Wants front next (cause_of (after at_start front) next) }
+        → IsFront front → wants_after at_start front ≢ [] → Wants front next (cause_of (wants_after at_start front) next) }
 {}
 
 /// What a text is read as, or where it is refused and why, is computed.

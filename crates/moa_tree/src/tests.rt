@@ -1,6 +1,7 @@
 use super::*;
 use shapes_core::Name;
 use std::test::Fail;
+use text_tokens::Position;
 
 #[test]
 fn a_program_gives_its_parts(rt: HostRuntime) -> Result<(), Fail> {

@@ -1,5 +1,6 @@
 // Programs as pools: nodes and numbers that are named by where they stand.
 ghost use Rattle.std.specs.Prelude.{◌≡◌};
+ghost use Rattle.moa_tree.specs.Pool.{listed, operands};
 ghost use Rattle.moa_tree.specs.Vocabulary.{version_number, version_numbered};
 
 use crate::operator::{Op, Unary};
@@ -111,6 +112,41 @@ pub enum Node {
         fold: Op,
         of: u32,
     },
+}
+
+/// The nodes on which a node works, from the left.
+#[derive(Clone, Copy)]
+pub enum Operands {
+    None,
+    One(u32),
+    Two(u32, u32),
+}
+
+impl Node {
+    /// The nodes on which the node works.
+    pub fn operands(self) -> Operands
+        ensures { listed result ≡ operands self }
+    {
+        match self {
+            Node::Number(_) | Node::Use(_) | Node::Iota(_) => Operands::None,
+            Node::One { of, .. }
+            | Node::Psi { of, .. }
+            | Node::Take { of, .. }
+            | Node::Drop { of, .. }
+            | Node::Reverse { of }
+            | Node::Rotate { of, .. }
+            | Node::Transpose { of }
+            | Node::Permute { of, .. }
+            | Node::Reshape { of, .. }
+            | Node::Ravel { of }
+            | Node::Reduce { of, .. }
+            | Node::Scan { of, .. } => Operands::One(of),
+            Node::Two { left, right, .. }
+            | Node::Cat { left, right }
+            | Node::Outer { left, right, .. }
+            | Node::Inner { left, right, .. } => Operands::Two(left, right),
+        }
+    }
 }
 
 /// A statement, with the position of its name.

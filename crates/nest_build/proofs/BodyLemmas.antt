@@ -5,9 +5,10 @@ use Rattle.std.specs.List.{AllByRecursion}
 use Rattle.std.proofs.Common.{refl, ap, ap₂, sym, subst, ◌∙◌, arith, inl, inr}
 use Rattle.std.proofs.lemmas.Bool.{cases_eq}
 use Rattle.std.proofs.lemmas.List.{get_or-set_other, get_or-set_same, length-set}
+use Rattle.shapes_core.specs.Limits.{greatest_extent}
 use Rattle.shapes_core.specs.declared.area.Area.{Area}
 use Rattle.shapes_core.specs.Gamma.{IsIndex, gamma, ungamma}
-use Rattle.shapes_core.specs.Shape.{greatest_extent, total}
+use Rattle.shapes_core.specs.Shape.{total}
 use Rattle.normal_form.specs.Assignments.{Assignment, assigned}
 use Rattle.normal_form.specs.Kept.{IsEntry, IsInBox, job_variables}
 use Rattle.normal_form.specs.Meaning.{meaning}
@@ -15,7 +16,7 @@ use Rattle.stride_form.specs.declared.access.Access.{Access}
 use Rattle.stride_form.specs.Accesses.{access_value, place_of}
 use Rattle.stride_form.specs.Operational.{Operational}
 use Rattle.loop_ir.specs.Inside.{IsInside, IsWordOf}
-use Rattle.loop_ir.specs.Running.{Pointer, Register, State, Writes, acted, run, with_word}
+use Rattle.loop_ir.specs.Running.{Pointer, Register, State, WritesWord, acted, run, with_word}
 use Rattle.loop_ir.specs.Steps.{Action, Write}
 use Rattle.nest_build.specs.Gives.{AddsInside, AreLaidOut, IsBuildable, IsReachedWithin, store_of}
 use Rattle.nest_build.specs.Nests.{Made, listed, made_of, own_access, start_of}
@@ -26,7 +27,7 @@ use Rattle.nest_build.proofs.LoopLemmas.{Acts, Ready, opening, word_of}
 use Rattle.nest_build.proofs.RegionLemmas.{OffsetLaw, all-opening, box-index, box-ranges, counters-below, counts-to}
 use Rattle.nest_build.proofs.RegionLemmas.{own-place, start-there, uncounted, within-region}
 use Rattle.nest_build.proofs.RunLemmas.{Numbered, RunsJoin, adds-on, adds-one, numbered-parts, run-append}
-use Rattle.nest_build.proofs.ValueLemmas.{CountsTo, Gets, IsLiteral, IsRead, IsSmall, evaluates, small-entry}
+use Rattle.nest_build.proofs.ValueLemmas.{CountsTo, Gets, IsLiteral, IsRead, IsSmallEntry, evaluates, small-entry}
 
 -- the laws of lower layers on which the proof stands
 pub record Laws : Type 0 where
@@ -221,7 +222,7 @@ module _ (laws : Laws) (areas : List Area) (own : ℕ) (shape : List ℕ) (regio
         at.0
         (all-zip (IsReachedWithin areas index) (λ access. access.area ≢ own) (IsRead areas (assigned index) state.words (store_of areas original))
         (accesses form) (reads-one (assigned index) index state.words refl ready.touched) (built.reached index inside) built.others)
-        (all-map (λ entry. IsEntry (job_variables shape) entry greatest_extent) IsSmall (entries form)
+        (all-map (λ entry. IsEntry (job_variables shape) entry greatest_extent) IsSmallEntry (entries form)
         (λ entry h. small-entry (job_variables shape) entry greatest_extent h) built.small)
         (record { registers = λ r under. refl; places = λ p. refl; same = refl })
 
@@ -252,8 +253,8 @@ module _ (laws : Laws) (areas : List Area) (own : ℕ) (shape : List ℕ) (regio
         ap₂ (λ word held. with_word middle.words word held) at g.holds ∙ ap (λ list. slice_set list (place m) (value m)) g.leaves.words in
         let trace : AddsInside areas state.trace final.trace =
         adds-on areas state.trace middle.trace final.trace g.leaves.trace
-        (adds-one areas (Writes own (middle.held (Pointer p))) middle.trace
-        (subst (λ word. IsInside areas (Writes own word)) (sym at) (own-word index inside))) in
+        (adds-one areas (WritesWord own (middle.held (Pointer p))) middle.trace
+        (subst (λ word. IsInside areas (WritesWord own word)) (sym at) (own-word index inside))) in
         let long : place m < length state.words = omega (arith, own-inside index inside, ready.touched.sized) in
         record {
           does = subst (λ after. Does areas place value (λ other. other ≡ m) state after) (sym same)

@@ -6,6 +6,7 @@ use Rattle.std.proofs.Common.{refl, ap, sym, ◌∙◌, arith}
 use Rattle.std.proofs.Math.Nat.{mul-le-mul_left, mul-le-mul_right}
 use Rattle.std.proofs.lemmas.Bool.{eqb-true}
 use Rattle.std.proofs.lemmas.List.{length-append}
+use Rattle.shapes_core.specs.Limits.{most_words}
 use Rattle.shapes_core.specs.declared.area.Area.{Area}
 use Rattle.stride_form.specs.declared.access.Access.{Access}
 use Rattle.stride_form.specs.Operational.{Operational}
@@ -160,7 +161,7 @@ more-time t p q b d c same e h =
     omega (arith, h, far, at)
 
 module _ (prices : Prices) (areas : List Area) (words own : ℕ) (shape : List ℕ) (region : List (ℕ × ℕ)) (form : Operational)
-    (offset : OffsetLaw) (below : BelowLaw) (low : AreLow prices) (laid : AreLaidOut areas words) (small : words ≤ 134217728)
+    (offset : OffsetLaw) (below : BelowLaw) (low : AreLow prices) (laid : AreLaidOut areas words) (small : words ≤ most_words)
     (built : IsBuildable areas own shape region form) where
   abbrev all : List Access
   all = accesses form ++ own_access own shape ∷ []

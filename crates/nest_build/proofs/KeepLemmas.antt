@@ -5,8 +5,9 @@ use Rattle.std.specs.List.{AllByRecursion, list_all}
 use Rattle.std.specs.Ordering.{int_eq}
 use Rattle.std.proofs.Common.{refl, arith}
 use Rattle.std.proofs.lemmas.Bool.{and_parts, leb-true, ne_eqb, true≢false}
+use Rattle.shapes_core.specs.Limits.{greatest_extent, most_axes}
 use Rattle.shapes_core.specs.declared.area.Area.{Area}
-use Rattle.shapes_core.specs.Shape.{IsShape, are_small, greatest_extent, most_axes, span}
+use Rattle.shapes_core.specs.Shape.{IsShape, are_small, span}
 use Rattle.moa_tree.specs.declared.operator.Op.{Op}
 use Rattle.moa_tree.specs.declared.operator.Op.TheVariants.{Add, Sub}
 use Rattle.normal_form.specs.declared.entry.Entry.{Entry}

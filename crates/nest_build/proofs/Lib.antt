@@ -5,7 +5,6 @@ mod CostLemmas
 mod DoesLemmas
 mod EachLemmas
 mod IndexLemmas
-mod InsideLemmas
 mod KeepLemmas
 mod LoopLemmas
 mod LoopNeedLemmas
@@ -14,7 +13,6 @@ mod NeedLemmas
 mod NestLemmas
 mod PartLemmas
 mod PlaceLemmas
-mod PoolLemmas
 mod PriceLemmas
 mod RegionLemmas
 mod RunLemmas

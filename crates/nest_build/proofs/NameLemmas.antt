@@ -7,8 +7,9 @@ use Rattle.std.proofs.Common.{refl, arith}
 use Rattle.std.proofs.lemmas.Bool.{and_parts, leb-true}
 use Rattle.std.proofs.lemmas.Int.{fits_signed_from_abs, ints}
 use Rattle.std.proofs.lemmas.List.{length-append}
+use Rattle.shapes_core.specs.Limits.{greatest_extent, most_axes}
 use Rattle.shapes_core.specs.declared.area.Area.{Area}
-use Rattle.shapes_core.specs.Shape.{IsShape, are_small, greatest_extent, most_axes}
+use Rattle.shapes_core.specs.Shape.{IsShape, are_small}
 use Rattle.normal_form.specs.declared.entry.Entry.{Entry}
 use Rattle.normal_form.specs.declared.entry.Entry.TheVariants.{At, Plus, Minus}
 use Rattle.normal_form.specs.Forms.{Lit, Index, Get, Un, Bin, Case, Fold, Let}

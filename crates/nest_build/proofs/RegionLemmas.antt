@@ -5,9 +5,10 @@ use Rattle.std.specs.List.{AllByRecursion, list_all, range_with_len}
 use Rattle.std.proofs.Common.{refl, ap, ap₂, sym, subst, ◌∙◌, arith}
 use Rattle.std.proofs.lemmas.Bool.{and_parts, cond-false, eqb-false, eqb-true, leb-true}
 use Rattle.std.proofs.lemmas.Int.{ints}
+use Rattle.shapes_core.specs.Limits.{greatest_extent, most_axes}
 use Rattle.shapes_core.specs.declared.area.Area.{Area}
 use Rattle.shapes_core.specs.Gamma.{IsIndex, gamma}
-use Rattle.shapes_core.specs.Shape.{IsShape, are_small, greatest_extent, most_axes, span}
+use Rattle.shapes_core.specs.Shape.{IsShape, are_small, span}
 use Rattle.normal_form.specs.declared.entry.Entry.{Entry}
 use Rattle.normal_form.specs.Assignments.{Assignment, assigned, bound, number, places}
 use Rattle.normal_form.specs.Forms.{Element}

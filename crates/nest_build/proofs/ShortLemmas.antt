@@ -6,9 +6,10 @@ use Rattle.std.specs.List.{AllByRecursion}
 use Rattle.std.proofs.Common.{refl, ap, sym, subst, ◌∙◌, arith, inl, inr}
 use Rattle.std.proofs.lemmas.Bool.{cases_eq, eqb-false}
 use Rattle.std.proofs.lemmas.Int.{fits_signed_from_abs, ints}
+use Rattle.shapes_core.specs.Limits.{greatest_extent, most_words}
 use Rattle.shapes_core.specs.declared.area.Area.{Area}
 use Rattle.shapes_core.specs.Gamma.{IsIndex, gamma}
-use Rattle.shapes_core.specs.Shape.{IsShape, greatest_extent, total}
+use Rattle.shapes_core.specs.Shape.{IsShape, total}
 use Rattle.normal_form.specs.Assignments.{Assignment, assigned, bound}
 use Rattle.normal_form.specs.Kept.{IsBox, IsInBox}
 use Rattle.stride_form.specs.declared.access.Access.{Access}
@@ -162,18 +163,18 @@ all-reached offset below areas own shape region form built =
 -- ---- strides
 
 step-short : (start low far here : ℤ) (p q : ℕ) → start +ℤ low ≡ pos p → start +ℤ far ≡ pos q → far ≡ low +ℤ here
-    → p < 134217728 → q < 134217728 → unsigned_abs here < 134217728
+    → p < most_words → q < most_words → unsigned_abs here < most_words
 step-short start low far here p q a b c h k = omega (arith, ints, a, b, c, h, k)
 
-all-short : (t : ℕ) (x : ℤ) → unsigned_abs (pos 1 *ℤ x) < 134217728 → unsigned_abs (pos t *ℤ x) < 134217728
+all-short : (t : ℕ) (x : ℤ) → unsigned_abs (pos 1 *ℤ x) < most_words → unsigned_abs (pos t *ℤ x) < most_words
     → unsigned_abs ((pos 0 -ℤ pos (suc t)) *ℤ x) < 268435456
 all-short t x h k = omega (arith, ints, h, k, once x, times-suc t x, minus-times (suc t) x)
 
-module _ (areas : List Area) (words : ℕ) (laid : AreLaidOut areas words) (small : words ≤ 134217728)
+module _ (areas : List Area) (words : ℕ) (laid : AreLaidOut areas words) (small : words ≤ most_words)
     (region : List (ℕ × ℕ)) (ranges : AreRanges region) where
   -- the place at an index vector is a small number
   place-small : (access : Access) (index : List ℕ) (m : Assignment) → assigned index ≡ m → IsReachedWithin areas index access
-      → (p : ℕ) × ((place_of m access ≡ pos p) × (start_of areas access.area + p < 134217728))
+      → (p : ℕ) × ((place_of m access ≡ pos p) × (start_of areas access.area + p < most_words))
   place-small access index m e h =
       let under = laid.within access.area h.area h.there in
       let begun = start-there areas access.area h.area h.there in
@@ -186,7 +187,7 @@ module _ (areas : List Area) (words : ℕ) (laid : AreLaidOut areas words) (smal
       fits_signed_from_abs w32 _ (omega (arith, ints, at.1.0, at.1.1))
 
   gap-short : (access : Access) (var k : ℕ) (pair : ℕ × ℕ) → IsReached areas region access → slice_get region var ≡ Some pair
-      → k < pair.1 - pair.0 → unsigned_abs (pos k *ℤ stride_along access.strides var) < 134217728
+      → k < pair.1 - pair.0 → unsigned_abs (pos k *ℤ stride_along access.strides var) < most_words
   gap-short access var k pair h e under =
       let low = low_of region in
       let none : 0 < pair.1 - pair.0 = omega (arith, under) in
@@ -248,7 +249,7 @@ pub record IsShort (spots : List Spot) (loop : Loop) : Type 0 where
   pub on : AllByRecursion (λ spot. FitsSigned w32 (pos 1 *ℤ stride_along spot.strides loop.var)) spots
   pub back : AllByRecursion (λ spot. FitsSigned w32 ((pos 0 -ℤ pos loop.turns) *ℤ stride_along spot.strides loop.var)) spots
 
-pub loops-short : (areas : List Area) (words : ℕ) → AreLaidOut areas words → words ≤ 134217728 → (region : List (ℕ × ℕ)) → AreRanges region
+pub loops-short : (areas : List Area) (words : ℕ) → AreLaidOut areas words → words ≤ most_words → (region : List (ℕ × ℕ)) → AreRanges region
     → (list : List Access) (place : ℕ) → AllByRecursion (IsReached areas region) list
     → (loops : List Loop) → AllByRecursion (IsLoopOf region) loops → AllByRecursion (IsShort (spots_from areas region place list)) loops
 loops-short areas words laid small region ranges list place h [] l = tt

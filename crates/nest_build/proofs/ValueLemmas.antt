@@ -5,8 +5,8 @@ use Rattle.std.specs.List.{AllByRecursion}
 use Rattle.std.proofs.Common.{refl, ap, ap₂, sym, subst, ◌∙◌, arith}
 use Rattle.std.proofs.lemmas.Bool.{and_parts, false≢true}
 use Rattle.std.proofs.lemmas.Int.{ints}
+use Rattle.shapes_core.specs.Limits.{greatest_extent}
 use Rattle.shapes_core.specs.declared.area.Area.{Area}
-use Rattle.shapes_core.specs.Shape.{greatest_extent}
 use Rattle.moa_tree.specs.declared.operator.Op.{Op}
 use Rattle.moa_tree.specs.declared.operator.Op.TheVariants.{Add, Sub}
 use Rattle.moa_tree.specs.declared.operator.Unary.{Unary}
@@ -21,7 +21,7 @@ use Rattle.stride_form.specs.declared.access.Access.{Access}
 use Rattle.stride_form.specs.Accesses.{access_value, place_of}
 use Rattle.stride_form.specs.Operational.{Operational}
 use Rattle.loop_ir.specs.Inside.{IsInside, IsWordOf}
-use Rattle.loop_ir.specs.Running.{Pointer, Reads, Register, State, acted, run, word_at}
+use Rattle.loop_ir.specs.Running.{Pointer, ReadsWord, Register, State, acted, run, word_at}
 use Rattle.loop_ir.specs.Steps.{Action, One, Read, Set, Two}
 use Rattle.nest_build.specs.Gives.{AddsInside}
 use Rattle.nest_build.specs.Nests.{counted_by, indexed, listed, made_of, start_of}
@@ -100,12 +100,12 @@ CountsTo low m base known var None = m var ≡ low var
 CountsTo low m base known var (Some counter) = (counter < base) × (pos (low var) +ℤ known counter ≡ pos (m var))
 
 -- a constant beside a variable is small
-abbrev pub IsSmall : Entry → Type 0
-IsSmall (At constant) = ⊤
-IsSmall (Plus var add) = unsigned_abs add ≤ greatest_constant
-IsSmall (Minus var add) = unsigned_abs add ≤ greatest_constant
+abbrev pub IsSmallEntry : Entry → Type 0
+IsSmallEntry (At constant) = ⊤
+IsSmallEntry (Plus var add) = unsigned_abs add ≤ greatest_constant
+IsSmallEntry (Minus var add) = unsigned_abs add ≤ greatest_constant
 
-pub small-entry : (variables : List ℕ) (entry : Entry) (n : ℕ) → IsEntry variables entry n → IsSmall entry
+pub small-entry : (variables : List ℕ) (entry : Entry) (n : ℕ) → IsEntry variables entry n → IsSmallEntry entry
 small-entry variables (At constant) n h = tt
 small-entry variables (Plus var add) n h = h.1
 small-entry variables (Minus var add) n h = h.1
@@ -210,7 +210,7 @@ module _ (areas : List Area) (loops : List Loop) (low : ℕ → ℕ) (m : Assign
       (ap (λ x. apply Sub (add -ℤ pos (low var)) x) (h.registers c e.0)
       ∙ minus-counted add (known c) (low var) (m var) e.1 (within var).0 (within var).1 small)
 
-  gets-entry : (free : ℕ) (entry : Entry) (state : State) → base ≤ free → Holds base known pointed words state → IsSmall entry
+  gets-entry : (free : ℕ) (entry : Entry) (state : State) → base ≤ free → Holds base known pointed words state → IsSmallEntry entry
       → Gets areas free (indexed loops low free entry) free state (number m entry)
   gets-entry free (At constant) state le h small =
       record { leaves = leaves-set areas free constant state; holds = held-same free constant state }
@@ -237,8 +237,8 @@ module _ (areas : List Area) (loops : List Loop) (low : ℕ → ℕ) (m : Assign
           kept = λ r below. held-below r free _ state below;
           places = λ p. refl;
           words = refl;
-          trace = adds-one areas (Reads access.area (state.held (Pointer place))) state.trace
-              (subst (λ word. IsInside areas (Reads access.area word)) (sym there) reads.inside);
+          trace = adds-one areas (ReadsWord access.area (state.held (Pointer place))) state.trace
+              (subst (λ word. IsInside areas (ReadsWord access.area word)) (sym there) reads.inside);
         };
         holds = held-same free _ state ∙ ap₂ (λ held word. word_at held word) h.same there ∙ reads.value;
       }
@@ -249,7 +249,7 @@ module _ (areas : List Area) (loops : List Loop) (low : ℕ → ℕ) (m : Assign
   Evaluates form = (free literal place : ℕ) (state : State) → is_straight form ≡ true → base ≤ free
       → Numbered (IsLiteral base known) literal (literals form)
       → Numbered (IsAtAccess areas m pointed) place (accesses form)
-      → AllByRecursion (IsRead areas m words store) (accesses form) → AllByRecursion IsSmall (entries form)
+      → AllByRecursion (IsRead areas m words store) (accesses form) → AllByRecursion IsSmallEntry (entries form)
       → Holds base known pointed words state
       → Gets areas free (made_of loops low free literal place form).steps (made_of loops low free literal place form).value state
       (meaning (access_value store) m form)
@@ -291,7 +291,7 @@ module _ (areas : List Area) (loops : List Loop) (low : ℕ → ℕ) (m : Assign
       let lit = numbered-parts (IsLiteral base known) literal (literals left) (literals right) lits in
       let at = numbered-parts (IsAtAccess areas m pointed) place (accesses left) (accesses right) places in
       let read = all-parts (IsRead areas m words store) (accesses left) (accesses right) reads in
-      let few = all-parts IsSmall (entries left) (entries right) small in
+      let few = all-parts IsSmallEntry (entries left) (entries right) small in
       let behind = behind_value free left in
       let first = made_of loops low free literal place left in
       let second = made_of loops low behind (literal + length (literals left)) (place + length (accesses left)) right in

@@ -6,7 +6,7 @@ use Rattle.shapes_core.specs.declared.area.Area.{Area}
 use Rattle.normal_form.specs.declared.entry.Entry.{Entry}
 use Rattle.normal_form.specs.declared.entry.Entry.TheVariants.{At, Plus, Minus}
 use Rattle.stride_form.specs.Operational.{Operational}
-use Rattle.loop_ir.specs.Running.{Access as Touch, Reads, Writes, Register, Pointer, State, acted, counted, holding, repeated, run}
+use Rattle.loop_ir.specs.Running.{Access as Touch, ReadsWord, WritesWord, Register, Pointer, State, acted, counted, holding, repeated, run}
 use Rattle.loop_ir.specs.Steps.{Action, Set, Copy, One, Two, Place, Spot, Walk, Read, Write, Steps, End, Then, For, If}
 use Rattle.nest_build.specs.Bounds.{AddsOwn, IsOwnWrite}
 use Rattle.nest_build.specs.Nests.{nest_of}
@@ -52,9 +52,9 @@ acted-own F registers places own (Place to word) state h = own-none own state.tr
 acted-own F registers places own (Spot to word by) state h = own-none own state.trace
 acted-own F registers places own (Walk place words) state h = own-none own state.trace
 acted-own F registers places own (Read to area place) state h =
-    record { more = Reads area (state.held (Pointer place)) ∷ []; same = refl; each = (tt, tt) }
+    record { more = ReadsWord area (state.held (Pointer place)) ∷ []; same = refl; each = (tt, tt) }
 acted-own F registers places own (Write area place from) state h =
-    record { more = Writes area (state.held (Pointer place)) ∷ []; same = refl; each = (h.0, tt) }
+    record { more = WritesWord area (state.held (Pointer place)) ∷ []; same = refl; each = (h.0, tt) }
 
 repeated-own : (own : ℕ) (turn : State → State) → ((state : State) → AddsOwn own state.trace (turn state).trace)
     → (count : ℕ) (state : State) → AddsOwn own state.trace (repeated turn count state).trace

@@ -5,7 +5,7 @@ use Rattle.std.specs.List.{AllByRecursion}
 use Rattle.normal_form.specs.Forms.{Un, Bin}
 use Rattle.stride_form.specs.Operational.{Operational}
 use Rattle.loop_ir.specs.Costs.{Prices}
-use Rattle.loop_ir.specs.Running.{Access as Touch, Key, Reads, Writes}
+use Rattle.loop_ir.specs.Running.{Access as Touch, Key, ReadsWord, WritesWord}
 
 -- prices as a machine has them: a number takes at most 8 lines, one of 32 signed bits at most 2, and a width is at most 3
 pub record AreLow (prices : Prices) : Type 0 where
@@ -26,8 +26,8 @@ places_in (pair ∷ pairs) = (pair.1 - pair.0) * places_in pairs
 
 -- a write is one of the job's own area
 abbrev pub IsOwnWrite : ℕ → Touch → Type 0
-IsOwnWrite own (Reads area word) = ⊤
-IsOwnWrite own (Writes area word) = area ≡ own
+IsOwnWrite own (ReadsWord area word) = ⊤
+IsOwnWrite own (WritesWord area word) = area ≡ own
 
 -- the accesses behind those that were made before write the job's own area alone
 pub record AddsOwn (own : ℕ) (before after : List Touch) : Type 0 where

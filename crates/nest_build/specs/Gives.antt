@@ -1,9 +1,10 @@
 -- What a nest is to do: give the values of its job on the region, change no other word, and stay inside the areas. This project's own.
 use Rattle.std.specs.Prelude.{◌≡◌, ◌≢◌, ℕ, ◌+◌, ◌<◌, ◌≤◌, ℤ, pos, List, ◌++◌, length, slice_get, slice_index_or, Some, true}
 use Rattle.std.specs.List.{AllByRecursion}
+use Rattle.shapes_core.specs.Limits.{greatest_extent}
 use Rattle.shapes_core.specs.declared.area.Area.{Area}
 use Rattle.shapes_core.specs.Gamma.{gamma}
-use Rattle.shapes_core.specs.Shape.{IsShape, greatest_extent, total}
+use Rattle.shapes_core.specs.Shape.{IsShape, total}
 use Rattle.normal_form.specs.Assignments.{assigned}
 use Rattle.normal_form.specs.Kept.{IsBox, IsEntry, IsInBox, job_variables}
 use Rattle.normal_form.specs.Meaning.{Store, meaning}

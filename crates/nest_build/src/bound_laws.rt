@@ -1,6 +1,7 @@
 // What the nests of forms cost, name, set and write, as clauses of functions that do nothing.
 ghost use Rattle.std.specs.Prelude.{◌≡◌, ◌+◌, ◌*◌, ◌<◌, ◌≤◌, ℕ, List, true};
 ghost use Rattle.std.specs.List.{AllByRecursion};
+ghost use Rattle.shapes_core.specs.Limits.{most_words};
 ghost use Rattle.shapes_core.specs.declared.area.Area.{Area};
 ghost use Rattle.stride_form.specs.Operational.{Operational};
 ghost use Rattle.loop_ir.specs.Costs.{Prices, cost, time};
@@ -19,16 +20,16 @@ use stride_form::laws::places_are_offsets;
 
 /// A nest of a straight form costs less than 240 for each term and two more, and takes less than 1024
 /// steps for each term and one more at each index vector of its region and one more, where the
-/// areas lie in at most 134217728 words.
+/// areas lie in at most `MOST_WORDS` words.
 pub fn nests_cost_little()
     ensures lines { (prices : Prices) (areas : List Area) (words own : ℕ) (shape : List ℕ)
         (region : List (ℕ × ℕ)) (form : Operational)
-        → AreLow prices → AreLaidOut areas words → words ≤ 134217728
+        → AreLow prices → AreLaidOut areas words → words ≤ most_words
         → IsBuildable areas own shape region form
         → 1 + cost prices (nest_of areas own shape region form) ≤ 240 * (2 + terms form) }
     ensures steps { (prices : Prices) (areas : List Area) (words own : ℕ) (shape : List ℕ)
         (region : List (ℕ × ℕ)) (form : Operational)
-        → AreLow prices → AreLaidOut areas words → words ≤ 134217728
+        → AreLow prices → AreLaidOut areas words → words ≤ most_words
         → IsBuildable areas own shape region form
         → 1 + time prices (nest_of areas own shape region form)
         ≤ 1024 * ((1 + places_in region) * (1 + terms form)) }

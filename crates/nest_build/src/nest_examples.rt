@@ -11,12 +11,14 @@ ghost use Rattle.loop_ir.specs.Costs.{cost, time};
 ghost use Rattle.loop_ir.specs.Inside.{IsDefined};
 ghost use Rattle.loop_ir.specs.Needed.{needed, none};
 ghost use Rattle.loop_ir.specs.NestExamples.{fresh, near};
-ghost use Rattle.loop_ir.specs.Running.{Key, Reads, Writes, run};
+ghost use Rattle.loop_ir.specs.Running.{Key, ReadsWord, WritesWord, run};
 ghost use Rattle.loop_ir.specs.Steps.{End, For, One, Place, Read, Set, Then, Two, Walk, Write};
 ghost use Rattle.nest_build.specs.Gives.{AddsInside, AreLaidOut, Gives, IsBuildable, IsReachedWithin, store_of};
 ghost use Rattle.nest_build.specs.NestExamples.{bent_forms, counted_areas, counted_form, counted_nest, element, input, long_nest, loop_over, mixed_form, mixed_steps, outer_areas, outer_form, outer_nest, outer_words, part_areas, part_form, part_nest, part_words, permuted_areas, permuted_form, permuted_nest, permuted_words, reversed_areas, reversed_form, reversed_nest, row_areas, row_form, row_nest, row_words, scalar_areas, scalar_form, scalar_nest, scaled_areas, scaled_form, scaled_nest, two_spots, vector};
 ghost use Rattle.nest_build.specs.Nests.{indexed, made_of, nest_of, own_access, spots_from, start_of, stride_along, walk_by, walks};
 ghost use Rattle.nest_build.specs.Parts.{accesses, behind_value, counter_of, entries, is_straight, literals, loops_from, low_of, values_of};
+
+use loop_ir::laws::tests_show_what_is_inside;
 
 /// The loops of a region go over the axes with more than one place, and have counters in order.
 /// The turns are those from the low end of an axis to its high one.
@@ -156,7 +158,9 @@ pub fn multiplies_each_by_each()
     ensures accesses { length (run outer_nest (fresh outer_words)).trace ≡ 60 }
     ensures inside { IsDefined outer_areas (run outer_nest (fresh outer_words)) }
     ensures nothing_needed { (key : Key) → needed outer_nest none key ≡ false }
-{}
+{
+    tests_show_what_is_inside();
+}
 
 /// Axis 2 becomes the outermost one, over the words 0 to 23: the place of the array walks by 1
 /// there, by 12 in the loop within, and by 4 in the innermost one.
@@ -166,7 +170,9 @@ pub fn permutes_axes()
     ensures accesses { length (run permuted_nest (fresh permuted_words)).trace ≡ 48 }
     ensures inside { IsDefined permuted_areas (run permuted_nest (fresh permuted_words)) }
     ensures nothing_needed { (key : Key) → needed permuted_nest none key ≡ false }
-{}
+{
+    tests_show_what_is_inside();
+}
 
 /// On a part of a reversed vector and its indices: the elements 1 and 2 are 40 + 1 and 30 + 2, and
 /// no other one changes.
@@ -174,10 +180,12 @@ pub fn adds_on_a_part()
     ensures words { (run part_nest (fresh part_words)).words
         ≡ pos 10 ∷ pos 20 ∷ pos 30 ∷ pos 40 ∷ pos 50 ∷ pos 7 ∷ pos 41 ∷ pos 32 ∷ pos 7 ∷ pos 7 ∷ [] }
     ensures trace { (run part_nest (fresh part_words)).trace
-        ≡ Writes 1 (pos 7) ∷ Reads 0 (pos 2) ∷ Writes 1 (pos 6) ∷ Reads 0 (pos 3) ∷ [] }
+        ≡ WritesWord 1 (pos 7) ∷ ReadsWord 0 (pos 2) ∷ WritesWord 1 (pos 6) ∷ ReadsWord 0 (pos 3) ∷ [] }
     ensures inside { IsDefined part_areas (run part_nest (fresh part_words)) }
     ensures nothing_needed { (key : Key) → needed part_nest none key ≡ false }
-{}
+{
+    tests_show_what_is_inside();
+}
 
 /// The end of a reversed vector, numbers of indices, a sum of scalars, and a part of a row. What
 /// registers and places hold before is never needed.
@@ -232,14 +240,18 @@ pub fn areas_in_words()
     ensures laid_out { AreLaidOut part_areas 10 }
     ensures short { AreLaidOut part_areas 9 → ⊥ }
     ensures together { AreLaidOut (input (codes "A") (5 ∷ []) 0 ∷ input (codes "B") (2 ∷ []) 4 ∷ []) 10 → ⊥ }
-{}
+{
+    tests_show_what_is_inside();
+}
 
 /// The accesses behind those that were made before are inside, and those before stay.
 pub fn accesses_are_added()
-    ensures inside { AddsInside part_areas (Reads 0 (pos 9) ∷ []) (Writes 1 (pos 6) ∷ Reads 0 (pos 9) ∷ []) }
-    ensures outside { AddsInside part_areas [] (Reads 0 (pos 9) ∷ []) → ⊥ }
-    ensures lost { AddsInside part_areas (Reads 0 (pos 1) ∷ []) [] → ⊥ }
-{}
+    ensures inside { AddsInside part_areas (ReadsWord 0 (pos 9) ∷ []) (WritesWord 1 (pos 6) ∷ ReadsWord 0 (pos 9) ∷ []) }
+    ensures outside { AddsInside part_areas [] (ReadsWord 0 (pos 9) ∷ []) → ⊥ }
+    ensures lost { AddsInside part_areas (ReadsWord 0 (pos 1) ∷ []) [] → ⊥ }
+{
+    tests_show_what_is_inside();
+}
 
 /// On the elements 1 and 2 the job's values are 41 and 32. A nest that changes another word, or one
 /// of these not, does not give them.

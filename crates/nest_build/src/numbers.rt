@@ -8,6 +8,7 @@ ghost use Rattle.nest_build.specs.Parts.{accesses, behind_value, literals, value
 
 use crate::part::{Part, top_of};
 use shapes_core::NoMemory;
+use stride_form::laws::terms_are_over_operands;
 use stride_form::{Access, OpTerm, Operational};
 
 /// Adds the literals of a term, from the left.
@@ -69,6 +70,7 @@ fn push_access(out: &mut Vec<Access>, form: &Operational, number: u32) -> Result
     ensures { (access : AnAccess) → op_form_at (op_forms form.now.terms) number ≡ Get access
         → OnOk result (out.new.items ≡ out.old.items ++ access ∷ []) }
 {
+    terms_are_over_operands();
     let OpTerm::Get(access) = form.term(number) else {
         return Err(NoMemory);
     };

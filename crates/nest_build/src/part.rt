@@ -6,6 +6,7 @@ ghost use Rattle.nest_build.specs.Reading.{IsPart};
 
 use moa_tree::{Op, Unary};
 use normal_form::Entry;
+use stride_form::laws::terms_are_over_operands;
 use stride_form::{OpTerm, Operational};
 
 /// The top of a term: of an access its area alone, and nothing of a choice, a fold or a binding.
@@ -26,6 +27,7 @@ pub(crate) fn top_of(form: &Operational, number: u32) -> Part
     requires there { number < length form.now.terms }
     ensures { IsPart (op_forms form.now.terms) number (op_form_at (op_forms form.now.terms) number) result }
 {
+    terms_are_over_operands();
     match form.term(number) {
         OpTerm::Lit(value) => Part::Lit(value),
         OpTerm::Index(entry) => Part::Index(entry),

@@ -2,7 +2,7 @@
 use Rattle.std.specs.Prelude.{◌≡◌, ℕ, zero, suc, ◌+◌, ◌<◌, ℤ, List, [], ◌∷◌, ◌++◌, length, map, slice_get, slice_index_or, Some}
 use Rattle.std.specs.List.{AllByRecursion, AllZip, flat_map, sum_by}
 use Rattle.std.proofs.Common.{refl, ap, sym, subst, ◌∙◌, arith, append_assoc}
-use Rattle.std.proofs.lemmas.List.{length-append, map-append}
+use Rattle.std.proofs.lemmas.List.{map-append}
 use Rattle.std.proofs.lemmas.List.Sums.{sum_by-cons}
 use Rattle.std.proofs.lemmas.Option.{same_Some}
 use Rattle.shapes_core.specs.declared.area.AreaKind.{AreaKind}
@@ -15,9 +15,11 @@ use Rattle.moa_tree.specs.Values.{Env}
 use Rattle.shape_check.specs.Jobs.{input_count, output_count}
 use Rattle.shape_check.specs.Layout.{Array, areas, arrays, gathered, input_of, numbered, output_of, placed, scan_shapes, shapes_after}
 use Rattle.psi_rules.specs.Areas.{area_lists, input_list}
+use Rattle.psi_rules.specs.Blocks.{AreAt, lists_of}
+use Rattle.nest_jobs.specs.BlockLaws.{BlockLaws}
 use Rattle.nest_jobs.specs.Leads.{HoldInputs}
 use Rattle.nest_jobs.specs.Outputs.{Due, Scene, dues, dues_from, opening, scene_after}
-use Rattle.nest_jobs.proofs.ListLemmas.{AreAt, at-both, at-here, at-mapped}
+use Rattle.nest_jobs.proofs.ListLemmas.{at-both, at-mapped}
 use Rattle.nest_jobs.proofs.OutputLemmas.{each-due}
 use Rattle.nest_jobs.proofs.StepLemmas.{HoldBefore}
 
@@ -53,9 +55,6 @@ dues-many inputs (Output name of ∷ items) scene =
 abbrev pub IsListed : List (List ℤ) → Due → Type 0
 IsListed lists due = slice_get lists due.scene.next.output ≡ Some (values due.scene.env due.of)
 
-abbrev lists_of : Lists → List (List ℤ)
-lists_of outputs = map (λ output. output.1) outputs
-
 abbrev AreListed : Lists → List (List ℤ) → Scene → List Item → Type 0
 AreListed inputs lists scene items = AreAt lists scene.next.output (lists_of (denote_from inputs scene.env items))
 
@@ -75,30 +74,13 @@ listed-both inputs lists scene item items h =
     (subst (AreAt lists own) (map-append (λ output. output.1) here behind) h) in
     (parts.0, subst (λ n. AreAt lists (own + n) (lists_of behind)) (output-counted scene.env item) parts.1)
 
-input-counted : (inputs : Lists) (item : Item) → length (input_list inputs item) ≡ input_count item
-input-counted inputs (Input name extents) = refl
-input-counted inputs (Let name of) = refl
-input-counted inputs (Output name of) = refl
-
-inputs-counted : (inputs : Lists) (items : List Item) → length (flat_map (input_list inputs) items) ≡ sum_by input_count items
-inputs-counted inputs [] = refl
-inputs-counted inputs (item ∷ items) =
-    let both = length-append (input_list inputs item) (flat_map (input_list inputs) items) in
-    omega (arith, both, inputs-counted inputs items, input-counted inputs item, sum_by-cons input_count item items)
-
-pub dues-listed : (inputs : Lists) (items : List Item) → AllByRecursion (IsListed (area_lists inputs items)) (dues inputs items)
-dues-listed inputs items =
+pub dues-listed : BlockLaws → (inputs : Lists) (items : List Item) → AllByRecursion (IsListed (area_lists inputs items)) (dues inputs items)
+dues-listed block inputs items =
     let lists = area_lists inputs items in
-    let ins = flat_map (input_list inputs) items in
-    let outs = lists_of (denote_from inputs [] items) in
-    let scans = denote_scans_from inputs [] items in
-    let parts = at-both lists 0 ins (outs ++ scans) (at-here lists) in
-    let more = at-both lists (0 + length ins) outs scans parts.1 in
-    let many : 0 + length ins ≡ sum_by input_count items = omega (arith, inputs-counted inputs items) in
     each-due inputs (AreListed inputs lists) (IsListed lists)
     (λ scene item behind h. (listed-both inputs lists scene item behind h).1)
     (λ scene name of behind h. (listed-both inputs lists scene (Output name of) behind h).0.0)
-    items (opening items) (subst (λ n. AreAt lists n outs) many more.0)
+    items (opening items) (block.areas_listed inputs items).1
 
 -- ---- inputs
 
@@ -131,9 +113,9 @@ front-at R (first ∷ xs) more (y ∷ ys) others h zero x other below e = subst 
 front-at R (first ∷ xs) more (y ∷ ys) others h (suc number) x other below e =
     front-at R xs more ys others h.1 number x other (omega (arith, below)) e
 
-pub inputs-held : (inputs : Lists) (items : List Item) (words : List ℤ) → HoldInputs inputs items words
+pub inputs-held : BlockLaws → (inputs : Lists) (items : List Item) (words : List ℤ) → HoldInputs inputs items words
     → HoldBefore (areas items) (area_lists inputs items) (sum_by input_count items) words
-inputs-held inputs items words held number found below e =
+inputs-held block inputs items words held number found below e =
     let ins = gathered input_of [] items in
     let outs = gathered output_of [] items in
     let scans = numbered 0 (gathered scan_shapes [] items) in
@@ -141,7 +123,8 @@ inputs-held inputs items words held number found below e =
     let kinds : map (λ area. area.kind) (areas items) ≡ kinds_in ins ++ kinds_in behind =
     placed-kinds 0 (arrays items) ∙ ap kinds_in (append_assoc ins outs scans) ∙ map-append (λ array. array.0) ins behind in
     let kind = subst (λ l. slice_get l number ≡ Some found.kind) kinds (at-mapped (λ area. area.kind) (areas items) number found e) in
+    let count : length (flat_map (input_list inputs) items) ≡ sum_by input_count items = block.inputs_counted inputs items in
     let input = front-at (IsInput inputs) (kinds_in ins) (kinds_in behind) (flat_map (input_list inputs) items)
     (lists_of (denote_from inputs [] items) ++ denote_scans_from inputs [] items) (inputs-match inputs [] items)
-    number found.kind [] (omega (arith, below, inputs-counted inputs items)) kind in
+    number found.kind [] (omega (arith, below, count)) kind in
     held number found input.0 e input.1 ∙ sym input.2

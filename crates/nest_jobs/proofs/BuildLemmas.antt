@@ -3,9 +3,10 @@ use Rattle.std.specs.Prelude.{◌≡◌, ◌≢◌, ℕ, ◌<◌, pos, List, [],
 use Rattle.std.specs.List.{AllByRecursion}
 use Rattle.std.specs.declared.option.Option.TheVariants.{Some}
 use Rattle.std.proofs.Common.{ap, arith, le_refl}
+use Rattle.shapes_core.specs.Limits.{greatest_extent}
 use Rattle.shapes_core.specs.declared.area.Area.{Area}
 use Rattle.shapes_core.specs.Gamma.{IsIndex, gamma}
-use Rattle.shapes_core.specs.Shape.{greatest_extent, total}
+use Rattle.shapes_core.specs.Shape.{total}
 use Rattle.normal_form.specs.Assignments.{Assignment, assigned, places}
 use Rattle.normal_form.specs.Forms.{Element, Lit, Index, Get, Un, Bin, Case, Fold, Let, Normal}
 use Rattle.normal_form.specs.Kept.{IsBox, IsEntry, IsInBox, IsKept}

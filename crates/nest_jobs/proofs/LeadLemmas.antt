@@ -4,7 +4,7 @@ use Rattle.std.specs.List.{AllByRecursion, fold, sum_by}
 use Rattle.std.specs.declared.option.Option.{Option}
 use Rattle.std.specs.declared.option.Option.TheVariants.{None, Some}
 use Rattle.std.proofs.Common.{refl, ap, sym, subst, ◌∙◌, arith}
-use Rattle.std.proofs.lemmas.Option.{get_or_from_slice_get}
+use Rattle.std.proofs.lemmas.Option.{get_or_from_slice_get, slice_get_within}
 use Rattle.shapes_core.specs.declared.area.Area.{Area}
 use Rattle.shapes_core.specs.Gamma.{IsIndex, gamma}
 use Rattle.shapes_core.specs.Shape.{total}
@@ -24,18 +24,18 @@ use Rattle.psi_rules.specs.Jobs.{forms}
 use Rattle.psi_rules.specs.Scopes.{job_shapes}
 use Rattle.stride_form.specs.Accesses.{access_value}
 use Rattle.stride_form.specs.Operational.{operational}
-use Rattle.loop_ir.specs.Running.{State, run}
+use Rattle.loop_ir.specs.Running.{State, run, run_all}
 use Rattle.loop_ir.specs.Steps.{Steps}
 use Rattle.nest_build.specs.Gives.{AreLaidOut, IsBuildable}
-use Rattle.nest_jobs.specs.Leads.{HoldInputs, Leads, nest_at, nests, nests_of, run_all}
+use Rattle.nest_jobs.specs.BlockLaws.{BlockLaws}
+use Rattle.nest_jobs.specs.Leads.{HoldInputs, Leads, nest_at, nests, nests_of}
 use Rattle.nest_jobs.specs.Outputs.{Due, array_of, dues, form_of, job_of, opening}
 use Rattle.nest_jobs.specs.Plain.{ArePlain}
 use Rattle.nest_jobs.proofs.AreaLemmas.{AreInOrder, IsListed, dues-listed, dues-many, in-order, inputs-held}
 use Rattle.nest_jobs.proofs.BeforeLemmas.{LoadsBefore, dues-before}
-use Rattle.nest_jobs.proofs.ListLemmas.{at-below, at-mapped, each-at, each-from, mapped-at, zip-at}
+use Rattle.nest_jobs.proofs.ListLemmas.{each-at, each-from, mapped-at, mapped-here, zip-at}
 use Rattle.nest_jobs.proofs.OutputLemmas.{FormHas, arrays-due, forms-due, jobs-due}
-use Rattle.nest_jobs.proofs.ScopeLemmas.{shapes-due}
-use Rattle.nest_jobs.proofs.ShapeLemmas.{AreShapes, IsShaped, areas-many, dues-shaped, shape_at}
+use Rattle.nest_jobs.proofs.ShapeLemmas.{AreShapes, IsShaped, areas-many, dues-shaped, shape_at, shapes-due}
 use Rattle.nest_jobs.proofs.StepLemmas.{GivesList, HoldBefore, IsJob, IsLed, NestLaws, held, inside-both, inside-none, job-leads}
 
 -- ---- the nests of outputs
@@ -48,10 +48,10 @@ due-nests : (areas : List Area) (list : List Due)
 due-nests areas [] = refl
 due-nests areas (due ∷ others) = ap (λ l. due_nest areas due ∷ l) (due-nests areas others)
 
-pub nests-due : (inputs : Lists) (items : List Item) → ArePlain items → nests items ≡ map (due_nest (areas items)) (dues inputs items)
-nests-due inputs items plain =
+pub nests-due : BlockLaws → (inputs : Lists) (items : List Item) → ArePlain items → nests items ≡ map (due_nest (areas items)) (dues inputs items)
+nests-due block inputs items plain =
     ap (λ l. nests_of (areas items) l (job_shapes items) (forms items)) (jobs-due inputs items plain)
-    ∙ ap (λ l. nests_of (areas items) (map job_of (dues inputs items)) l (forms items)) (shapes-due inputs items plain)
+    ∙ ap (λ l. nests_of (areas items) (map job_of (dues inputs items)) l (forms items)) (shapes-due block inputs items plain)
     ∙ ap (λ l. nests_of (areas items) (map job_of (dues inputs items)) (map shape_at (dues inputs items)) l) (forms-due inputs items plain)
     ∙ due-nests (areas items) (dues inputs items)
 
@@ -95,7 +95,25 @@ pub record MeaningLaws : Type 0 where
   pub stored : (env : Env) (expr : Expr) (index : List ℕ) → IsIndex index (env_shape env expr)
       → element (output_list env expr) (env_shape env expr) index ≡ value env expr index
 
-module _ (laws : MeaningLaws) (inputs : Lists) (items : List Item) where
+-- each job's form can be built
+abbrev pub AreBuildable : Lists → List Item → Type 0
+AreBuildable inputs items =
+    (number : ℕ) (tree_job : TreeJob) (array : Given) (form : Normal) → slice_get (jobs items) number ≡ Some tree_job
+    → slice_get (given inputs items) number ≡ Some array → slice_get (forms items) number ≡ Some (Some form)
+    → IsBuildable (areas items) tree_job.job.area array.shape (map (λ n. (0, n)) array.shape) (operational form)
+
+-- and so can that of each output
+pub due-built : (inputs : Lists) (items : List Item) → ArePlain items → AreBuildable inputs items → (number : ℕ) (due : Due)
+    → slice_get (dues inputs items) number ≡ Some due → (made : Normal) → form_of due ≡ Some made
+    → IsBuildable (areas items) due.scene.next.output (array_of due).shape (map (λ n. (0, n)) (array_of due).shape) (operational made)
+due-built inputs items plain built number due e made same =
+    let list = dues inputs items in
+    built number (job_of due) (array_of due) made
+    (mapped-here job_of list (jobs items) number due (jobs-due inputs items plain) e)
+    (mapped-here array_of list (given inputs items) number due (arrays-due inputs items plain) e)
+    (mapped-here form_of list (forms items) number due (forms-due inputs items plain) e ∙ ap (λ f. Some f) same)
+
+module _ (laws : MeaningLaws) (block : BlockLaws) (inputs : Lists) (items : List Item) where
   gives-list : (due : Due) (form : Option Normal) → env_shape due.scene.env due.of ≡ shape_at due
       → slice_index_or (area_lists inputs items) due.scene.next.output [] ≡ values due.scene.env due.of
       → IsFormOf (store inputs items) form (array_of due) → FormHas (LoadsBefore due.scene.next.output) form
@@ -137,37 +155,26 @@ module _ (laws : MeaningLaws) (inputs : Lists) (items : List Item) where
   abbrev pub HaveShapes : Type 0
   HaveShapes = AreShapes (fold shapes_after [] items)
 
-  -- each job's form can be built
-  abbrev pub AreBuildable : Type 0
-  AreBuildable =
-      (number : ℕ) (tree_job : TreeJob) (array : Given) (form : Normal) → slice_get (jobs items) number ≡ Some tree_job
-      → slice_get (given inputs items) number ≡ Some array → slice_get (forms items) number ≡ Some (Some form)
-      → IsBuildable (areas items) tree_job.job.area array.shape (map (λ n. (0, n)) array.shape) (operational form)
-
-  dues-jobs : ArePlain items → HaveShapes → AreFormsOf (store inputs items) (forms items) (given inputs items) → AreBuildable
+  dues-jobs : ArePlain items → HaveShapes → AreFormsOf (store inputs items) (forms items) (given inputs items) → AreBuildable inputs items
       → AllByRecursion (IsDueJob (areas items) (area_lists inputs items)) (dues inputs items)
   dues-jobs plain shapes gives built =
       let list = dues inputs items in
       let known = map (λ area. area.shape) (areas items) in
       each-from (IsDueJob (areas items) (area_lists inputs items)) list (λ number due e.
-      let job = subst (λ l. slice_get l number ≡ Some (job_of due)) (sym (jobs-due inputs items plain))
-      (at-mapped job_of list number due e) in
-      let form = subst (λ l. slice_get l number ≡ Some (form_of due)) (sym (forms-due inputs items plain))
-      (at-mapped form_of list number due e) in
-      let array = subst (λ l. slice_get l number ≡ Some (array_of due)) (sym (arrays-due inputs items plain))
-      (at-mapped array_of list number due e) in
-      let shaped = each-at (IsShaped known) list (dues-shaped inputs items shapes) number due e in
+      let form = mapped-here form_of list (forms items) number due (forms-due inputs items plain) e in
+      let array = mapped-here array_of list (given inputs items) number due (arrays-due inputs items plain) e in
+      let shaped = each-at (IsShaped known) list (dues-shaped block inputs items shapes) number due e in
       due-job due shaped
-      (each-at (IsListed (area_lists inputs items)) list (dues-listed inputs items) number due e)
+      (each-at (IsListed (area_lists inputs items)) list (dues-listed block inputs items) number due e)
       (zip-at (IsFormOf (store inputs items)) (forms items) (given inputs items) gives number (form_of due) (array_of due) form array)
       (each-at (λ d. FormHas (LoadsBefore d.scene.next.output) (form_of d)) list (dues-before inputs items plain) number due e)
       (λ made same.
       subst (λ s. IsBuildable (areas items) due.scene.next.output s (map (λ n. (0, n)) s) (operational made))
       (ap (λ s. shape_of s due.of) shaped.alike.0)
-      (built number (job_of due) (array_of due) made job array (form ∙ ap (λ f. Some f) same))))
+      (due-built inputs items plain built number due e made same)))
 
   pub program-leads : NestLaws → ArePlain items → HaveShapes → AreFormsOf (store inputs items) (forms items) (given inputs items)
-      → AreBuildable → AreLaidOut (areas items) (words items)
+      → AreBuildable inputs items → AreLaidOut (areas items) (words items)
       → (state : State) → length state.words ≡ words items → HoldInputs inputs items state.words
       → Leads inputs items state (run_all (nests items) state)
   program-leads nested plain shapes gives built laid state sized held =
@@ -176,13 +183,13 @@ module _ (laws : MeaningLaws) (inputs : Lists) (items : List Item) where
       let own = sum_by input_count items in
       let led = all-lead nested (areas items) lists list own state (in-order inputs items (opening items) own refl)
       (dues-jobs plain shapes gives built) (subst (AreLaidOut (areas items)) (sym sized) laid)
-      (inputs-held inputs items state.words held) in
-      let same = sym (nests-due inputs items plain) in
+      (inputs-held block inputs items state.words held) in
+      let same = sym (nests-due block inputs items plain) in
       subst (λ l. Leads inputs items state (run_all l state)) same
       (record {
         sized = led.sized;
         holds = λ number area e.
-            let there = at-below (areas items) number area e in
-            led.holds number area (omega (arith, there, areas-many items plain, dues-many inputs items (opening items))) e;
+            let there = slice_get_within (areas items) number area e in
+            led.holds number area (omega (arith, there, areas-many block items plain, dues-many inputs items (opening items))) e;
         inside = led.inside;
       })

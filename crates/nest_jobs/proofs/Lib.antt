@@ -7,7 +7,6 @@ mod NestOfLemmas
 mod OutputLemmas
 mod PlacedLemmas
 mod ProgramLemmas
-mod ScopeLemmas
 mod ShapeLemmas
 mod SizeLemmas
 mod SourceLemmas

@@ -1,10 +1,11 @@
 -- What holds of the items of lists that are joined or mapped, and which items stand at their places.
-use Rattle.std.specs.Prelude.{◌≡◌, ℕ, zero, suc, ◌+◌, ◌<◌, List, [], ◌∷◌, ◌++◌, length, map, slice_get, Some}
+use Rattle.std.specs.Prelude.{◌≡◌, ℕ, zero, suc, ◌+◌, List, [], ◌∷◌, ◌++◌, length, map, slice_get, Some}
 use Rattle.std.specs.List.{AllByRecursion, AllZip}
 use Rattle.std.specs.Option.{option_map}
 use Rattle.std.proofs.Common.{refl, ap, sym, subst, ◌∙◌, arith}
 use Rattle.std.proofs.lemmas.List.{map-append}
 use Rattle.std.proofs.lemmas.Option.{none-some, same_Some, slice_get-map}
+use Rattle.psi_rules.specs.Blocks.{AreAt}
 
 -- ---- the items of one list
 
@@ -35,12 +36,6 @@ pub each-from : {X : Type 0} (P : X → Type 0) (xs : List X) → ((number : ℕ
 each-from P [] f = tt
 each-from P (x ∷ xs) f = (f 0 x refl, each-from P xs (λ number y e. f (suc number) y e))
 
--- an item stands at a place below the length
-pub at-below : {X : Type 0} (xs : List X) (number : ℕ) (x : X) → slice_get xs number ≡ Some x → number < length xs
-at-below [] number x e = absurd (none-some x e)
-at-below (front ∷ xs) zero x e = omega arith
-at-below (front ∷ xs) (suc number) x e = omega (arith, at-below xs number x e)
-
 -- ---- lists that are mapped
 
 pub at-mapped : {X Y : Type 0} (f : X → Y) (xs : List X) (number : ℕ) (x : X) → slice_get xs number ≡ Some x
@@ -54,11 +49,14 @@ mapped-at f [] number y e = absurd (none-some y e)
 mapped-at f (front ∷ xs) zero y e = (front, refl, same_Some (f front) y e)
 mapped-at f (front ∷ xs) (suc number) y e = mapped-at f xs number y e
 
--- what an item is mapped to is what stands at its place
+-- the item that stands in a list of what items are mapped to
+pub mapped-here : {X Y : Type 0} (f : X → Y) (xs : List X) (ys : List Y) (number : ℕ) (x : X) → ys ≡ map f xs → slice_get xs number ≡ Some x
+    → slice_get ys number ≡ Some (f x)
+mapped-here f xs ys number x same e = ap (λ l. slice_get l number) same ∙ at-mapped f xs number x e
+
 pub mapped-same : {X Y : Type 0} (f : X → Y) (xs : List X) (ys : List Y) (number : ℕ) (x : X) (y : Y) → ys ≡ map f xs
     → slice_get xs number ≡ Some x → slice_get ys number ≡ Some y → f x ≡ y
-mapped-same f xs ys number x y same e g =
-    same_Some (f x) y (sym (at-mapped f xs number x e) ∙ ap (λ l. slice_get l number) (sym same) ∙ g)
+mapped-same f xs ys number x y same e g = same_Some (f x) y (sym (mapped-here f xs ys number x same e) ∙ g)
 
 -- items that are mapped to the same, and then others
 pub map-more : {X Y : Type 0} (f : X → Y) (xs more : List X) (ys others : List Y) → ys ≡ map f xs → others ≡ map f more
@@ -67,19 +65,7 @@ map-more f xs more ys others h k = ap (λ l. l ++ others) h ∙ ap (λ l. map f 
 
 -- ---- items at their places
 
--- the items from this place on are these
-abbrev pub AreAt : {X : Type 0} → List X → ℕ → List X → Type 0
-AreAt all start [] = Unit {0}
-AreAt all start (item ∷ items) = (slice_get all start ≡ Some item) × AreAt all (suc start) items
-
-at-later : {X : Type 0} (x : X) (all : List X) (start : ℕ) (items : List X) → AreAt all start items → AreAt (x ∷ all) (suc start) items
-at-later x all start [] h = tt
-at-later x all start (item ∷ items) h = (h.0, at-later x all (suc start) items h.1)
-
-pub at-here : {X : Type 0} (all : List X) → AreAt all 0 all
-at-here [] = tt
-at-here (x ∷ all) = (refl, at-later x all 0 all (at-here all))
-
+-- the items from a place on are some and then others
 pub at-both : {X : Type 0} (all : List X) (start : ℕ) (front back : List X) → AreAt all start (front ++ back)
     → AreAt all start front × AreAt all (start + length front) back
 at-both all start [] back h = (tt, let e : start ≡ start + 0 = omega arith in subst (λ n. AreAt all n back) e h)

@@ -1,9 +1,9 @@
 -- The nests of a plain accepted program are those of its forms; and a program with an output has some size.
-use Rattle.std.specs.Prelude.{◌≡◌, ℕ, ◌+◌, ◌*◌, ◌≤◌, true, List, [], ◌∷◌, map, slice_get}
+use Rattle.std.specs.Prelude.{◌≡◌, ℕ, ◌+◌, ◌*◌, ◌≤◌, true, List, [], ◌∷◌, map}
 use Rattle.std.specs.List.{AllByRecursion, fold}
 use Rattle.std.specs.declared.option.Option.{Option}
 use Rattle.std.specs.declared.option.Option.TheVariants.{None, Some}
-use Rattle.std.proofs.Common.{refl, ap, sym, subst, ◌∙◌, arith}
+use Rattle.std.proofs.Common.{refl, ap, sym, subst, arith}
 use Rattle.std.proofs.lemmas.Bool.{false≢true}
 use Rattle.shapes_core.specs.declared.area.Area.{Area}
 use Rattle.moa_tree.specs.Denotation.{Store as Lists}
@@ -11,21 +11,22 @@ use Rattle.moa_tree.specs.Expr.{Item, Input, Let, Output}
 use Rattle.moa_tree.specs.Readings.{has_output}
 use Rattle.moa_tree.specs.ShapeOf.{shape_of}
 use Rattle.shape_check.specs.Costs.{Prices, job_size, job_work, prices_after, size, sum_over, work}
-use Rattle.shape_check.specs.Jobs.{TreeJob, jobs}
+use Rattle.shape_check.specs.Jobs.{TreeJob}
 use Rattle.shape_check.specs.Layout.{areas, shapes_after}
 use Rattle.normal_form.specs.Forms.{Normal}
-use Rattle.psi_rules.specs.Areas.{Given, given}
+use Rattle.psi_rules.specs.Areas.{given}
 use Rattle.psi_rules.specs.Jobs.{forms}
 use Rattle.stride_form.specs.Operational.{operational}
 use Rattle.nest_build.specs.Gives.{IsBuildable}
 use Rattle.nest_build.specs.Nests.{nest_of}
+use Rattle.nest_jobs.specs.BlockLaws.{BlockLaws}
 use Rattle.nest_jobs.specs.Leads.{nest_at, nests}
-use Rattle.nest_jobs.specs.Outputs.{Due, array_of, dues, form_of, job_of}
+use Rattle.nest_jobs.specs.Outputs.{Due, array_of, dues, form_of}
 use Rattle.nest_jobs.specs.Plain.{ArePlain}
 use Rattle.nest_jobs.specs.Sources.{AreNestsOf, IsNestOf}
-use Rattle.nest_jobs.proofs.LeadLemmas.{due_nest, nests-due}
-use Rattle.nest_jobs.proofs.ListLemmas.{at-mapped, each-at, each-from}
-use Rattle.nest_jobs.proofs.OutputLemmas.{arrays-due, forms-due, jobs-due, plain-cut}
+use Rattle.nest_jobs.proofs.LeadLemmas.{AreBuildable, due-built, due_nest, nests-due}
+use Rattle.nest_jobs.proofs.ListLemmas.{each-at, each-from}
+use Rattle.nest_jobs.proofs.OutputLemmas.{arrays-due, forms-due, plain-cut}
 use Rattle.nest_jobs.proofs.ShapeLemmas.{AreShapes, IsShaped, dues-shaped, shape_at}
 use Rattle.nest_jobs.proofs.SizeLemmas.{one-cost}
 
@@ -46,37 +47,23 @@ dues-nests : (areas : List Area) (list : List Due) → AllByRecursion (IsDueNest
 dues-nests areas [] h = tt
 dues-nests areas (due ∷ others) h = (h.0, dues-nests areas others h.1)
 
-module _ (inputs : Lists) (items : List Item) (plain : ArePlain items) where
-  -- each job's form can be built
-  abbrev AreBuildable : Type 0
-  AreBuildable =
-      (number : ℕ) (tree_job : TreeJob) (array : Given) (form : Normal) → slice_get (jobs items) number ≡ Some tree_job
-      → slice_get (given inputs items) number ≡ Some array → slice_get (forms items) number ≡ Some (Some form)
-      → IsBuildable (areas items) tree_job.job.area array.shape (map (λ n. (0, n)) array.shape) (operational form)
-
-  due-nests : AreShapes (fold shapes_after [] items) → AreBuildable → AllByRecursion (IsDueNest (areas items)) (dues inputs items)
+module _ (block : BlockLaws) (inputs : Lists) (items : List Item) (plain : ArePlain items) where
+  due-nests : AreShapes (fold shapes_after [] items) → AreBuildable inputs items
+      → AllByRecursion (IsDueNest (areas items)) (dues inputs items)
   due-nests shapes built =
-      let list = dues inputs items in
       let known = map (λ area. area.shape) (areas items) in
-      each-from (IsDueNest (areas items)) list (λ number due e.
-      let job = subst (λ l. slice_get l number ≡ Some (job_of due)) (sym (jobs-due inputs items plain))
-      (at-mapped job_of list number due e) in
-      let form = subst (λ l. slice_get l number ≡ Some (form_of due)) (sym (forms-due inputs items plain))
-      (at-mapped form_of list number due e) in
-      let array = subst (λ l. slice_get l number ≡ Some (array_of due)) (sym (arrays-due inputs items plain))
-      (at-mapped array_of list number due e) in
-      let shaped = each-at (IsShaped known) list (dues-shaped inputs items shapes) number due e in
+      each-from (IsDueNest (areas items)) (dues inputs items) (λ number due e.
+      let shaped = each-at (IsShaped known) (dues inputs items) (dues-shaped block inputs items shapes) number due e in
       nest-of-form (areas items) due.scene.next.output (shape_at due) (array_of due).shape (form_of due)
-      (sym (ap (λ s. shape_of s due.of) shaped.alike.0))
-      (λ made same. built number (job_of due) (array_of due) made job array (form ∙ ap (λ f. Some f) same)))
+      (sym (ap (λ s. shape_of s due.of) shaped.alike.0)) (due-built inputs items plain built number due e))
 
-  pub nests-of-forms : AreShapes (fold shapes_after [] items) → AreBuildable
+  pub nests-of-forms : AreShapes (fold shapes_after [] items) → AreBuildable inputs items
       → AreNestsOf (areas items) (forms items) (given inputs items) (nests items)
   nests-of-forms shapes built =
       let list = dues inputs items in
       subst (λ l. AreNestsOf (areas items) l (given inputs items) (nests items)) (sym (forms-due inputs items plain))
       (subst (λ l. AreNestsOf (areas items) (map form_of list) l (nests items)) (sym (arrays-due inputs items plain))
-      (subst (AreNestsOf (areas items) (map form_of list) (map array_of list)) (sym (nests-due inputs items plain))
+      (subst (AreNestsOf (areas items) (map form_of list) (map array_of list)) (sym (nests-due block inputs items plain))
       (dues-nests (areas items) list (due-nests shapes built))))
 
 -- ---- sizes

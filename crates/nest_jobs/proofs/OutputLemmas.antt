@@ -6,7 +6,7 @@ use Rattle.std.specs.declared.option.Option.TheVariants.{None, Some}
 use Rattle.std.proofs.Common.{refl, ap, subst, ◌∙◌}
 use Rattle.std.proofs.lemmas.Bool.{false≢true}
 use Rattle.shapes_core.specs.Shape.{total}
-use Rattle.moa_tree.specs.Denotation.{Store as Lists, after, scans_of}
+use Rattle.moa_tree.specs.Denotation.{Store as Lists, env_after, scans_of}
 use Rattle.moa_tree.specs.Expr.{Expr, Scan, Item, Input, Let, Output}
 use Rattle.moa_tree.specs.Subexpressions.{if_scan, subexpressions_of}
 use Rattle.shape_check.specs.Jobs.{TreeJob, jobs, jobs_from, jobs_of, output_count, output_jobs, scan_jobs}
@@ -109,7 +109,7 @@ module _ (inputs : Lists) where
       let parts = plain-cut item items h in
       map-more array_of (due_in scene item) (dues_from inputs (scene_after inputs scene item) items)
       (map (task_given scene.env) (tasks_of scene.next item))
-      (given_from inputs (after inputs scene.env item) (next_after scene.next item) items)
+      (given_from inputs (env_after inputs scene.env item) (next_after scene.next item) items)
       (ap (λ l. map (task_given scene.env) l) (plain-tasks scene.next item parts.0) ∙ due-arrays scene item)
       (arrays-from items (scene_after inputs scene item) parts.1)
 

@@ -19,6 +19,7 @@ use Rattle.psi_rules.specs.Loads.{LoadsFrom}
 use Rattle.stride_form.specs.Operational.{operational}
 use Rattle.nest_build.specs.Gives.{IsBuildable}
 use Rattle.nest_build.specs.Parts.{is_straight}
+use Rattle.nest_jobs.specs.BlockLaws.{BlockLaws}
 use Rattle.nest_jobs.specs.Outputs.{array_of, dues}
 use Rattle.nest_jobs.specs.Plain.{ArePlain}
 use Rattle.nest_jobs.proofs.BuildLemmas.{BelowLaw, OffsetLaw, each-reached, other-areas, small-entries, whole-box, whole-index}
@@ -53,7 +54,7 @@ buildable offset below inputs items own array form straight kept loads gives som
           each-reached offset below (areas items) index form loads (gives.1 index (whole-index index array.shape inside)).fine;
     }
 
-pub form-buildable : OffsetLaw → BelowLaw → ((shape : List ℕ) → 0 < total shape → AllByRecursion (λ n. 0 < n) shape)
+pub form-buildable : BlockLaws → OffsetLaw → BelowLaw → ((shape : List ℕ) → 0 < total shape → AllByRecursion (λ n. 0 < n) shape)
     → (inputs : Lists) (items : List Item) (shapes : Shapes) (number : ℕ) (tree_job : TreeJob) (array : Given) (form : Normal)
     → ArePlain items
     → is_straight (operational form) ≡ true → IsKept tree_job.job.area (job_variables array.shape) form
@@ -62,11 +63,11 @@ pub form-buildable : OffsetLaw → BelowLaw → ((shape : List ℕ) → 0 < tota
     → slice_get (jobs items) number ≡ Some tree_job → slice_get (given inputs items) number ≡ Some array
     → slice_get (forms items) number ≡ Some (Some form)
     → IsBuildable (areas items) tree_job.job.area array.shape (map (λ n. (0, n)) array.shape) (operational form)
-form-buildable offset below full inputs items shapes number tree_job array form plain straight kept loads gives known each job at made =
+form-buildable block offset below full inputs items shapes number tree_job array form plain straight kept loads gives known each job at made =
     let found = job-due inputs items number tree_job plain job in
     let due = found.0 in
     let shape = each-at (IsShaped (map (λ area. area.shape) (areas items))) (dues inputs items)
-    (dues-shaped inputs items (all-shapes items shapes known each)) number due found.1 in
+    (dues-shaped block inputs items (all-shapes items shapes known each)) number due found.1 in
     let same = mapped-same array_of (dues inputs items) (given inputs items) number due array (arrays-due inputs items plain) found.1 at in
     let given = zip-at (IsFormOf (store inputs items)) (forms items) (given inputs items) gives number (Some form) array made at in
     let extents : shape_at due ≡ array.shape = sym (ap (λ s. shape_of s due.of) shape.alike.0) ∙ ap (λ g. g.shape) same in

@@ -26,6 +26,7 @@ use Rattle.psi_rules.specs.Jobs.{forms}
 use Rattle.psi_rules.specs.Rules.{Named, Names, form, nameless, scan_behind, shape_in}
 use Rattle.stride_form.specs.Operational.{operational}
 use Rattle.nest_build.specs.Bounds.{terms}
+use Rattle.nest_jobs.specs.BlockLaws.{BlockLaws}
 use Rattle.nest_jobs.specs.Outputs.{Due, Scene, array_of, dues, dues_from, form_of, job_of, opening, scene_after}
 use Rattle.nest_jobs.specs.Plain.{ArePlain, EachPlain, is_plain}
 use Rattle.nest_jobs.specs.Sizes.{form_size, form_sizes, form_work, form_works}
@@ -34,11 +35,11 @@ use Rattle.nest_jobs.proofs.OutputLemmas.{arrays-due, each-due, forms-due, plain
 use Rattle.nest_jobs.proofs.ShapeLemmas.{AreAlike, alike-after}
 
 -- at most so many terms, by nodes and by work
-abbrev IsSmall : ℕ → ℕ → Normal → Type 0
-IsSmall most work made = (terms (operational made) ≤ most) × (terms (operational made) ≤ work)
+abbrev IsSmallForm : ℕ → ℕ → Normal → Type 0
+IsSmallForm most work made = (terms (operational made) ≤ most) × (terms (operational made) ≤ work)
 
 abbrev IsSmallFormer : ℕ → ℕ → Former → Type 0
-IsSmallFormer most work former = (entries : List Entry) (next : ℕ) → IsSmall most work (former entries next).0
+IsSmallFormer most work former = (entries : List Entry) (next : ℕ) → IsSmallForm most work (former entries next).0
 
 -- ---- names
 
@@ -69,7 +70,7 @@ name-small (named ∷ names) (priced ∷ prices) name h =
 -- ---- expressions
 
 -- an operator on one operand, and one on two
-one-more : (most work : ℕ) (made : Normal) → IsSmall most work made → IsSmall (1 + most) (1 + work) made
+one-more : (most work : ℕ) (made : Normal) → IsSmallForm most work made → IsSmallForm (1 + most) (1 + work) made
 one-more most work made h = (omega (arith, h.0), omega (arith, h.1))
 
 module _ (names : Names) (prices : Prices) (agree : AreSmall names prices) where
@@ -129,12 +130,12 @@ product-below : (n k m : ℕ) → k ≤ m → n * k ≤ n * m
 product-below zero k m h = grind arith
 product-below (suc n) k m h = grind (arith, product-below n k m h, h)
 
-sized-choice : (test : Bool) (most work : ℕ) (made : Normal) → IsSmall most work made
+sized-choice : (test : Bool) (most work : ℕ) (made : Normal) → IsSmallForm most work made
     → form_size (if test then None else Some made) ≤ 2 + most
 sized-choice true most work made h = omega arith
 sized-choice false most work made h = omega (arith, h.0)
 
-worked-choice : (test : Bool) (shape : List ℕ) (at : List ℕ → ℤ) (most work : ℕ) (made : Normal) → IsSmall most work made
+worked-choice : (test : Bool) (shape : List ℕ) (at : List ℕ → ℤ) (most work : ℕ) (made : Normal) → IsSmallForm most work made
     → form_work (if test then None else Some made) (record { shape = shape; at = at }) ≤ (1 + total shape) * (1 + work)
 worked-choice true shape at most work made h = omega arith
 worked-choice false shape at most work made h =
@@ -147,24 +148,24 @@ pub record IsSceneSmall (scene : Scene) (items : List Item) : Type 0 where
   pub small : AreSmall scene.names scene.prices
   pub alike : AreAlike scene
 
-small-after : (inputs : Lists) (scene : Scene) (item : Item) (items : List Item) → IsSceneSmall scene (item ∷ items)
+small-after : BlockLaws → (inputs : Lists) (scene : Scene) (item : Item) (items : List Item) → IsSceneSmall scene (item ∷ items)
     → IsSceneSmall (scene_after inputs scene item) items
-small-after inputs scene (Input name extents) items h = record {
+small-after block inputs scene (Input name extents) items h = record {
   plain = (plain-cut (Input name extents) items h.plain).1;
   small = ((refl, λ entries next. (omega arith, omega arith)), h.small);
-  alike = alike-after inputs scene (Input name extents) h.alike;
+  alike = alike-after block inputs scene (Input name extents) h.alike;
 }
-small-after inputs scene (Let name of) items h =
+small-after block inputs scene (Let name of) items h =
     let parts = plain-cut (Let name of) items h.plain in
     record {
       plain = parts.1;
       small = ((refl, form-small scene.names scene.prices h.small scene.next.scan of parts.0), h.small);
-      alike = alike-after inputs scene (Let name of) h.alike;
+      alike = alike-after block inputs scene (Let name of) h.alike;
     }
-small-after inputs scene (Output name of) items h = record {
+small-after block inputs scene (Output name of) items h = record {
   plain = (plain-cut (Output name of) items h.plain).1;
   small = ((refl, λ entries next. (omega arith, omega arith)), h.small);
-  alike = alike-after inputs scene (Output name of) h.alike;
+  alike = alike-after block inputs scene (Output name of) h.alike;
 }
 
 -- an output's form is within the size of its job, and within its work
@@ -200,18 +201,18 @@ one-cost cost prices name of h =
     ap (λ l. sum_by (cost prices) l) (plain-jobs 0 0 0 (Output name of) h)
     ∙ sum_by-cons (cost prices) (record { job = record { area = 0; node = 0; fold = None }; of = of }) []
 
-module _ (inputs : Lists) where
+module _ (block : BlockLaws) (inputs : Lists) where
   sizes-from : (items : List Item) (scene : Scene) → IsSceneSmall scene items
       → form_sizes (map form_of (dues_from inputs scene items)) ≤ sum_over job_size scene.prices items
   sizes-from [] scene h = omega arith
   sizes-from (Input name extents ∷ items) scene h =
-      let rest = sizes-from items (scene_after inputs scene (Input name extents)) (small-after inputs scene (Input name extents) items h) in
+      let rest = sizes-from items (scene_after inputs scene (Input name extents)) (small-after block inputs scene (Input name extents) items h) in
       omega (arith, rest)
   sizes-from (Let name of ∷ items) scene h =
-      let rest = sizes-from items (scene_after inputs scene (Let name of)) (small-after inputs scene (Let name of) items h) in
+      let rest = sizes-from items (scene_after inputs scene (Let name of)) (small-after block inputs scene (Let name of) items h) in
       omega (arith, rest)
   sizes-from (Output name of ∷ items) scene h =
-      let rest = sizes-from items (scene_after inputs scene (Output name of)) (small-after inputs scene (Output name of) items h) in
+      let rest = sizes-from items (scene_after inputs scene (Output name of)) (small-after block inputs scene (Output name of) items h) in
       let cost = one-cost job_size scene.prices name of (plain-cut (Output name of) items h.plain).0 in
       omega (arith, rest, size-of-one scene name of items h, cost)
 
@@ -220,29 +221,29 @@ module _ (inputs : Lists) where
       ≤ sum_over job_work scene.prices items
   works-from [] scene h = omega arith
   works-from (Input name extents ∷ items) scene h =
-      let rest = works-from items (scene_after inputs scene (Input name extents)) (small-after inputs scene (Input name extents) items h) in
+      let rest = works-from items (scene_after inputs scene (Input name extents)) (small-after block inputs scene (Input name extents) items h) in
       omega (arith, rest)
   works-from (Let name of ∷ items) scene h =
-      let rest = works-from items (scene_after inputs scene (Let name of)) (small-after inputs scene (Let name of) items h) in
+      let rest = works-from items (scene_after inputs scene (Let name of)) (small-after block inputs scene (Let name of) items h) in
       omega (arith, rest)
   works-from (Output name of ∷ items) scene h =
-      let rest = works-from items (scene_after inputs scene (Output name of)) (small-after inputs scene (Output name of) items h) in
+      let rest = works-from items (scene_after inputs scene (Output name of)) (small-after block inputs scene (Output name of) items h) in
       let cost = one-cost job_work scene.prices name of (plain-cut (Output name of) items h.plain).0 in
       omega (arith, rest, work-of-one scene name of items h, cost)
 
 opening-small : (items : List Item) → ArePlain items → IsSceneSmall (opening items) items
 opening-small items plain = record { plain = plain; small = tt; alike = (refl, refl) }
 
-pub sizes-small : (items : List Item) → ArePlain items → form_sizes (forms items) ≤ size items
-sizes-small items plain =
+pub sizes-small : BlockLaws → (items : List Item) → ArePlain items → form_sizes (forms items) ≤ size items
+sizes-small block items plain =
     subst (λ l. form_sizes l ≤ size items) (sym (forms-due [] items plain))
-    (sizes-from [] items (opening items) (opening-small items plain))
+    (sizes-from block [] items (opening items) (opening-small items plain))
 
-pub works-small : (inputs : Lists) (items : List Item) → ArePlain items → form_works (forms items) (given inputs items) ≤ work items
-works-small inputs items plain =
+pub works-small : BlockLaws → (inputs : Lists) (items : List Item) → ArePlain items → form_works (forms items) (given inputs items) ≤ work items
+works-small block inputs items plain =
     subst (λ l. form_works l (given inputs items) ≤ work items) (sym (forms-due inputs items plain))
     (subst (λ l. form_works (map form_of (dues inputs items)) l ≤ work items) (sym (arrays-due inputs items plain))
-    (works-from inputs items (opening items) (opening-small items plain)))
+    (works-from block inputs items (opening items) (opening-small items plain)))
 
 -- one form is not larger than all are
 pub size-at : (list : List (Option Normal)) (number : ℕ) (form : Option Normal) → slice_get list number ≡ Some form
@@ -252,15 +253,15 @@ size-at (first ∷ others) zero form e =
     let same : form_size first ≡ form_size form = ap form_size (same_Some first form e) in omega (arith, same)
 size-at (first ∷ others) (suc number) form e = omega (arith, size-at others number form e)
 
-pub sizes-of-each : (inputs : Lists) (items : List Item) → ArePlain items
+pub sizes-of-each : BlockLaws → (inputs : Lists) (items : List Item) → ArePlain items
     → AllByRecursion (λ due. form_size (form_of due) ≤ job_size due.scene.prices (job_of due)) (dues inputs items)
-sizes-of-each inputs items plain =
-    each-due inputs IsSceneSmall (λ due. form_size (form_of due) ≤ job_size due.scene.prices (job_of due)) (small-after inputs)
+sizes-of-each block inputs items plain =
+    each-due inputs IsSceneSmall (λ due. form_size (form_of due) ≤ job_size due.scene.prices (job_of due)) (small-after block inputs)
     size-of-one items (opening items) (opening-small items plain)
 
-pub works-of-each : (inputs : Lists) (items : List Item) → ArePlain items
+pub works-of-each : BlockLaws → (inputs : Lists) (items : List Item) → ArePlain items
     → AllByRecursion (λ due. form_work (form_of due) (array_of due) ≤ job_work due.scene.prices (job_of due)) (dues inputs items)
-works-of-each inputs items plain =
+works-of-each block inputs items plain =
     each-due inputs IsSceneSmall (λ due. form_work (form_of due) (array_of due) ≤ job_work due.scene.prices (job_of due))
-    (small-after inputs)
+    (small-after block inputs)
     work-of-one items (opening items) (opening-small items plain)

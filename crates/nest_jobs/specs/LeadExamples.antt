@@ -7,8 +7,8 @@ use Rattle.shape_check.specs.Layout.{areas}
 use Rattle.psi_rules.specs.Areas.{given}
 use Rattle.psi_rules.specs.Jobs.{forms}
 use Rattle.loop_ir.specs.NestExamples.{fresh}
-use Rattle.loop_ir.specs.Running.{State}
-use Rattle.nest_jobs.specs.Leads.{area_values, nests, run_all}
+use Rattle.loop_ir.specs.Running.{State, run_all}
+use Rattle.nest_jobs.specs.Leads.{area_values, nests}
 use Rattle.nest_jobs.specs.Plain.{is_plain}
 use Rattle.nest_jobs.specs.Sizes.{form_sizes, form_works}
 use Prim.Native.String.{String}

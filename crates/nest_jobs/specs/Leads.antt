@@ -16,7 +16,7 @@ use Rattle.psi_rules.specs.Areas.{area_lists}
 use Rattle.psi_rules.specs.Jobs.{forms}
 use Rattle.psi_rules.specs.Scopes.{job_shapes}
 use Rattle.stride_form.specs.Operational.{operational}
-use Rattle.loop_ir.specs.Running.{State, run}
+use Rattle.loop_ir.specs.Running.{State}
 use Rattle.loop_ir.specs.Steps.{Steps, End}
 use Rattle.nest_build.specs.Gives.{AddsInside}
 use Rattle.nest_build.specs.Nests.{nest_of}
@@ -39,11 +39,6 @@ nests_of areas (tree_job ∷ jobs) (shape ∷ shapes) (form ∷ forms) =
 -- those of all jobs of a program, in order
 abbrev pub nests : List Item → List Steps
 nests items = nests_of (areas items) (jobs items) (job_shapes items) (forms items)
-
--- one after another
-abbrev pub run_all : List Steps → State → State
-run_all [] state = state
-run_all (nest ∷ nests) state = run_all nests (run nest state)
 
 -- ---- words
 

@@ -1,3 +1,4 @@
+pub mod BlockLaws
 pub mod LeadExamples
 pub mod Leads
 pub mod Outputs

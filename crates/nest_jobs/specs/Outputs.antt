@@ -1,6 +1,6 @@
 -- The outputs of a program, each with the names, the arrays and the prices before it. This project's own.
 use Rattle.std.specs.Prelude.{ℕ, ◌+◌, List, [], ◌∷◌, ◌++◌, length, None, Option}
-use Rattle.moa_tree.specs.Denotation.{Store as Lists, after}
+use Rattle.moa_tree.specs.Denotation.{Store as Lists, env_after}
 use Rattle.moa_tree.specs.Expr.{Expr, Item, Input, Let, Output}
 use Rattle.moa_tree.specs.Subexpressions.{subexpressions_of}
 use Rattle.moa_tree.specs.Values.{Env}
@@ -23,7 +23,7 @@ pub record Scene : Type 0 where
 abbrev pub scene_after : Lists → Scene → Item → Scene
 scene_after inputs scene item = record {
   names = named scene.names scene.next item ∷ scene.names;
-  env = after inputs scene.env item;
+  env = env_after inputs scene.env item;
   prices = prices_after scene.prices item;
   next = next_after scene.next item;
   node = scene.node + length (subexpressions_of item);

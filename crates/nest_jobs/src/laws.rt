@@ -17,57 +17,41 @@ ghost use Rattle.stride_form.specs.Operational.{operational};
 ghost use Rattle.nest_build.specs.Bounds.{terms};
 ghost use Rattle.nest_build.specs.Gives.{AreLaidOut, IsBuildable};
 ghost use Rattle.nest_build.specs.Parts.{accesses, is_straight};
+ghost use Rattle.nest_jobs.specs.BlockLaws.{BlockLaws};
 ghost use Rattle.nest_jobs.specs.Outputs.{Due, array_of, dues, form_of, job_of};
 ghost use Rattle.nest_jobs.specs.Plain.{ArePlain};
 ghost use Rattle.nest_jobs.specs.Sizes.{form_size, form_sizes, form_work, form_works};
 
+use psi_rules::block_laws::{areas_stand_in_order, names_have_shapes};
 use psi_rules::keeping_laws::forms_keep;
 use psi_rules::laws::jobs_give;
 use psi_rules::loading_laws::forms_load;
-use shape_check::laws::verdicts_are_shapes;
+use psi_rules::task_laws::jobs_are_tasks;
+use shape_check::laws::{lists_are_totals, verdicts_are_shapes};
 use shapes_core::laws::span_laws;
 use stride_form::laws::places_are_offsets;
 
-/// Each job of a plain program is an output's, and no scan has an area.
-pub fn plain_jobs_are_outputs()
-    ensures outputs { (items : List Item) (number : ℕ) (tree_job : TreeJob) → ArePlain items
-        → slice_get (jobs items) number ≡ Some tree_job → tree_job.job.fold ≡ None }
-    ensures scans { (items : List Item) → ArePlain items → gathered scan_shapes [] items ≡ [] }
-{}
+/// What is known of the block of a program and of the shapes in it.
+pub(crate) fn block_laws()
+    ensures { BlockLaws }
+{
+    areas_stand_in_order();
+    names_have_shapes();
+    lists_are_totals();
+    jobs_are_tasks();
+}
 
-/// The jobs of a plain program, their forms, their arrays and the shapes of these are those of its
-/// outputs, in order.
-pub fn jobs_are_dues()
-    ensures jobs { (inputs : Lists) (items : List Item) → ArePlain items
-        → jobs items ≡ map job_of (dues inputs items) }
-    ensures forms { (inputs : Lists) (items : List Item) → ArePlain items
-        → forms items ≡ map form_of (dues inputs items) }
-    ensures arrays { (inputs : Lists) (items : List Item) → ArePlain items
-        → given inputs items ≡ map array_of (dues inputs items) }
-    ensures shapes { (inputs : Lists) (items : List Item) → ArePlain items
-        → job_shapes items ≡ map (λ array. array.shape) (given inputs items) }
-{}
-
-/// The form of each of its jobs is straight.
-pub fn plain_forms_are_straight()
+/// The form of each job of a plain program is straight.
+fn plain_forms_are_straight()
     ensures { (items : List Item) (number : ℕ) (form : Normal) → ArePlain items
         → slice_get (forms items) number ≡ Some (Some form)
         → is_straight (operational form) ≡ true }
 {}
 
-/// A job loads from inputs and from the outputs of jobs before it.
-pub fn forms_load_what_is_before()
-    ensures { (items : List Item) (number : ℕ) (tree_job : TreeJob) (form : Normal) → ArePlain items
-        → slice_get (jobs items) number ≡ Some tree_job
-        → slice_get (forms items) number ≡ Some (Some form)
-        → AllByRecursion (λ access. access.area < tree_job.job.area) (accesses (operational form)) }
-{}
-
-/// The areas of an accepted program are laid out: each lies in the words of them all, and no word is
+/// The areas of a program are laid out: each lies in the words of them all, and no word is
 /// of two areas.
 pub fn areas_are_laid_out()
-    ensures { (items : List Item) (shapes : Shapes) → verdict_of items ≡ Ok shapes
-        → AreLaidOut (areas items) (words items) }
+    ensures { (items : List Item) → AreLaidOut (areas items) (words items) }
 {}
 
 /// What a nest asks of its form holds of the form of each job, on the whole of the job's array.
@@ -81,6 +65,7 @@ pub fn forms_are_buildable()
         → IsBuildable (areas items) tree_job.job.area array.shape (map (λ n. (0, n)) array.shape)
         (operational form) }
 {
+    block_laws();
     plain_forms_are_straight();
     forms_keep();
     forms_load();
@@ -108,4 +93,6 @@ pub fn forms_are_small()
     ensures each { (items : List Item) (number : ℕ) (form : Normal) → ArePlain items
         → slice_get (forms items) number ≡ Some (Some form)
         → 2 + terms (operational form) ≤ size items }
-{}
+{
+    block_laws();
+}

@@ -7,11 +7,11 @@ ghost use Rattle.moa_tree.specs.Expr.{Item};
 ghost use Rattle.moa_tree.specs.ShapeOf.{Shapes};
 ghost use Rattle.shape_check.specs.Layout.{words};
 ghost use Rattle.shape_check.specs.Statements.{verdict_of};
-ghost use Rattle.loop_ir.specs.Running.{State};
-ghost use Rattle.nest_jobs.specs.Leads.{HoldInputs, Leads, nests, run_all};
+ghost use Rattle.loop_ir.specs.Running.{State, run_all};
+ghost use Rattle.nest_jobs.specs.Leads.{HoldInputs, Leads, nests};
 ghost use Rattle.nest_jobs.specs.Plain.{ArePlain};
 
-use crate::laws::{areas_are_laid_out, forms_are_buildable};
+use crate::laws::{areas_are_laid_out, block_laws, forms_are_buildable};
 use moa_tree::stored_values;
 use nest_build::laws::nests_give;
 use psi_rules::laws::jobs_give;
@@ -28,6 +28,7 @@ pub fn programs_lead()
         → length state.words ≡ words items → HoldInputs inputs items state.words
         → Leads inputs items state (run_all (nests items) state) }
 {
+    block_laws();
     areas_are_laid_out();
     forms_are_buildable();
     stored_values();

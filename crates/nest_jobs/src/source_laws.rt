@@ -19,7 +19,7 @@ ghost use Rattle.nest_jobs.specs.Leads.{nests};
 ghost use Rattle.nest_jobs.specs.Plain.{ArePlain};
 ghost use Rattle.nest_jobs.specs.Sources.{AreNestsOf, EachPasses, form_passes};
 
-use crate::laws::forms_are_buildable;
+use crate::laws::{block_laws, forms_are_buildable};
 use shape_check::laws::verdicts_are_shapes;
 
 /// The operators and numbers in the forms of a plain program are those of its source, and 0: tests
@@ -38,6 +38,7 @@ pub fn nests_are_of_forms()
         → AllByRecursion IsBuiltItem items → ArePlain items
         → AreNestsOf (areas items) (forms items) (given inputs items) (nests items) }
 {
+    block_laws();
     forms_are_buildable();
     verdicts_are_shapes();
 }

@@ -1,7 +1,7 @@
 -- What a fold over the items of an axis in front keeps.
 use Rattle.std.specs.Prelude.{ℕ, zero, suc, ◌<◌, ◌≤◌, pos, List, ◌∷◌, drop, slice_index_or}
 use Rattle.std.proofs.Common.{arith, le_refl}
-use Rattle.shapes_core.specs.Shape.{greatest_extent}
+use Rattle.shapes_core.specs.Limits.{greatest_extent}
 use Rattle.moa_tree.specs.declared.operator.Op.{Op}
 use Rattle.normal_form.specs.declared.entry.Entry.{Entry}
 use Rattle.normal_form.specs.declared.entry.Entry.TheVariants.{At}

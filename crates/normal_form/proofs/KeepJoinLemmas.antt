@@ -3,7 +3,7 @@ use Rattle.std.specs.Prelude.{◌≡◌, ℕ, zero, suc, ◌+◌, ◌-◌, ◌<�
 use Rattle.std.proofs.Common.{refl, subst, sym, arith, le_refl}
 use Rattle.std.proofs.lemmas.Bool.{ltb-false, ltb-true}
 use Rattle.std.proofs.lemmas.Int.{ints}
-use Rattle.shapes_core.specs.Shape.{greatest_extent}
+use Rattle.shapes_core.specs.Limits.{greatest_extent}
 use Rattle.moa_tree.specs.Axes.{on_axis}
 use Rattle.normal_form.specs.declared.entry.Entry.{Entry}
 use Rattle.normal_form.specs.declared.entry.Entry.TheVariants.{At, Plus, Minus}

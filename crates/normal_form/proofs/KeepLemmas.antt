@@ -3,7 +3,8 @@ use Rattle.std.specs.Prelude.{◌≢◌, ℕ, suc, ◌<◌, ◌≤◌, ℤ, pos,
 use Rattle.std.specs.List.{AllByRecursion, Contains}
 use Rattle.std.proofs.Common.{refl, arith, le_refl, le_trans}
 use Rattle.std.proofs.lemmas.List.Elements.{All-contains, All-from_recursion}
-use Rattle.shapes_core.specs.Shape.{IsShape, greatest_extent}
+use Rattle.shapes_core.specs.Limits.{greatest_extent}
+use Rattle.shapes_core.specs.Shape.{IsShape}
 use Rattle.moa_tree.specs.declared.operator.Op.{Op}
 use Rattle.moa_tree.specs.declared.operator.Unary.{Unary}
 use Rattle.normal_form.specs.declared.entry.Entry.{Entry}

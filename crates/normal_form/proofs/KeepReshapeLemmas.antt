@@ -8,8 +8,9 @@ use Rattle.std.specs.List.{AllByRecursion}
 use Rattle.std.proofs.Common.{refl, sym, subst, arith, le_trans, mod-lt}
 use Rattle.std.proofs.Math.Nat.{le-max_left, le-max_right, le-mul_of_pos_right, mul-le-mul_right}
 use Rattle.std.proofs.lemmas.Bool.{and_parts, leb-true}
+use Rattle.shapes_core.specs.Limits.{greatest_extent, most_axes}
 use Rattle.shapes_core.specs.Gamma.{IsIndex, digit, gamma}
-use Rattle.shapes_core.specs.Shape.{IsShape, are_small, greatest_extent, most_axes, span, total}
+use Rattle.shapes_core.specs.Shape.{IsShape, are_small, span, total}
 use Rattle.normal_form.specs.declared.entry.Entry.{Entry}
 use Rattle.normal_form.specs.declared.entry.Entry.TheVariants.{At, Plus, Minus}
 use Rattle.normal_form.specs.declared.term.Bind.TheVariants.{Flat, Digit}

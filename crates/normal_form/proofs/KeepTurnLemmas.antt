@@ -2,7 +2,7 @@
 use Rattle.std.specs.Prelude.{ℕ, zero, suc, ◌<◌, ◌≤◌, ℤ, pos, negsuc, ◌+ℤ◌, List, [], ◌∷◌, slice_index_or}
 use Rattle.std.specs.Int.{int_rem_euclid}
 use Rattle.std.proofs.Common.{arith, le_refl, mod-lt}
-use Rattle.shapes_core.specs.Shape.{greatest_extent}
+use Rattle.shapes_core.specs.Limits.{greatest_extent}
 use Rattle.moa_tree.specs.Axes.{on_axis, turned}
 use Rattle.normal_form.specs.declared.entry.Entry.{Entry}
 use Rattle.normal_form.specs.declared.entry.Entry.TheVariants.{At, Plus, Minus}

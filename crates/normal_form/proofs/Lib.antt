@@ -1,4 +1,3 @@
-pub mod FillLemmas
 pub mod FoldLemmas
 pub mod FreshLemmas
 pub mod GivesLemmas

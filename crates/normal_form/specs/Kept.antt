@@ -3,7 +3,8 @@ use Rattle.std.specs.Prelude.{◌≡◌, ◌≢◌, ℕ, ◌+◌, ◌-◌, ◌*�
 use Rattle.std.specs.List.{AllByRecursion, AllZip, Contains, range_with_len}
 use Rattle.std.specs.declared.option.Option.{Option}
 use Rattle.std.specs.declared.option.Option.TheVariants.{None, Some}
-use Rattle.shapes_core.specs.Shape.{IsShape, greatest_extent, total}
+use Rattle.shapes_core.specs.Limits.{greatest_extent, greatest_size, most_items}
+use Rattle.shapes_core.specs.Shape.{IsShape, total}
 use Rattle.moa_tree.specs.declared.operator.Op.{Op}
 use Rattle.moa_tree.specs.declared.tree.Job.{Job}
 use Rattle.moa_tree.specs.Operators.{identity}
@@ -22,7 +23,7 @@ use Rattle.normal_form.specs.Stands.{IsFine}
 
 -- the greatest constant beside a variable: a program has at most 1024 nodes, and each adds at most an extent
 abbrev pub greatest_constant : ℕ
-greatest_constant = 1024 * greatest_extent
+greatest_constant = greatest_size * greatest_extent
 
 -- an entry among these variables: a constant is a place among n, and one beside a variable is small
 abbrev pub IsEntry : List ℕ → Entry → ℕ → Type 0
@@ -108,7 +109,7 @@ pub record IsNormal (parts : Parts) : Type 0 where
   pub box : IsBox parts.region parts.shape
   pub folds : IsFoldJob parts.job.fold parts.shape
   pub there : 0 < length parts.terms
-  pub few : length parts.terms ≤ 2 ^ 30
+  pub few : length parts.terms ≤ most_items
   pub ordered : AreOrdered 0 parts.terms
   pub kept : IsKept parts.job.area (job_variables parts.shape) (top_form parts.terms)
   pub fine : (index : List ℕ) → IsInBox index parts.region → Reached IsFine (assigned index) (top_form parts.terms)

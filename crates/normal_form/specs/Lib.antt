@@ -1,5 +1,4 @@
 pub mod Assignments
-pub mod Fills
 pub mod Formers
 pub mod Forms
 pub mod Moves

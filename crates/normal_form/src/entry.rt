@@ -1,10 +1,9 @@
 // The entries of an index.
 ghost use Rattle.std.specs.Prelude.{◌≡◌, ◌↔◌, ◌≤◌, IsSome, IfSome, length};
 
+use shapes_core::MOST_AXES;
+use shapes_core::laws::copies_are_padded;
 use std::marker::Model;
-
-/// The greatest number of entries: one an axis.
-const MOST_ENTRIES: usize = 6;
 
 /// A number at an index: a constant, a variable and a constant, or a constant minus a variable.
 #[derive(Clone, Copy, Debug, PartialEq, Eq)]
@@ -17,13 +16,13 @@ pub enum Entry {
 /// At most 6 entries, one an axis.
 #[derive(Clone, Copy)]
 pub struct Entries {
-    list: [Entry; 6],
+    list: [Entry; MOST_AXES],
     axes: usize,
 }
 
 impl Model for Entries {
     ghost use Rattle.std.specs.Prelude.{pos, List, length, take};
-    ghost use Rattle.normal_form.specs.Fills.{IsFilled, filled};
+    ghost use Rattle.shapes_core.specs.Padded.{IsPadded, padded};
     ghost use Rattle.normal_form.specs.declared.entry.Entry.{Entry as AnEntry};
     ghost use Rattle.normal_form.specs.declared.entry.Entry.TheVariants.{At};
 
@@ -31,11 +30,11 @@ impl Model for Entries {
 
     ghost view = { λ e. take e.axes e.list };
 
-    ghost invariant = { λ e. IsFilled (At (pos 0)) 6 e.list e.axes };
+    ghost invariant = { λ e. IsPadded (At (pos 0)) 6 e.list e.axes };
 
-    ghost inverse = { λ list. record { list = filled (At (pos 0)) 6 list; axes = length list } };
+    ghost inverse = { λ list. record { list = padded (At (pos 0)) 6 list; axes = length list } };
 
-    ghost inverse_ok = { λ n h i. record { list = h.fills i; axes = h.counted i } };
+    ghost inverse_ok = { λ n h i. record { list = h.filled i; axes = h.counted i } };
 }
 
 impl Entries {
@@ -44,10 +43,11 @@ impl Entries {
         ensures within { IsSome result ↔ length list.now ≤ 6 }
         ensures same { IfSome result (λ entries. entries ≡ list.now) }
     {
-        if list.len() > MOST_ENTRIES {
+        if list.len() > MOST_AXES {
             return None;
         }
-        let mut filled = [Entry::At(0); MOST_ENTRIES];
+        copies_are_padded::<Entry>();
+        let mut filled = [Entry::At(0); MOST_AXES];
         filled[..list.len()].copy_from_slice(list);
         Some(Entries {
             list: filled,

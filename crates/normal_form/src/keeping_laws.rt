@@ -1,7 +1,8 @@
 // The laws of what formers keep, as clauses of functions that do nothing: each kind of rule keeps
 // it where the formers of its operands do.
 ghost use Rattle.std.specs.Prelude.{◌≢◌, ◌≡◌, ◌+◌, ◌<◌, ◌≤◌, ℕ, ℤ, pos, List, [], ◌∷◌, drop, slice_index_or};
-ghost use Rattle.shapes_core.specs.Shape.{IsShape, greatest_extent, total};
+ghost use Rattle.shapes_core.specs.Limits.{greatest_extent};
+ghost use Rattle.shapes_core.specs.Shape.{IsShape, total};
 ghost use Rattle.moa_tree.specs.Axes.{on_axis, turned};
 ghost use Rattle.moa_tree.specs.declared.operator.Op.{Op as Operator};
 ghost use Rattle.moa_tree.specs.declared.operator.Unary.{Unary as UnaryOperator};

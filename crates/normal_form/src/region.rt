@@ -1,32 +1,30 @@
 // Boxes of index vectors.
 ghost use Rattle.std.specs.Prelude.{◌≡◌, ◌↔◌, ◌<◌, ◌≤◌, ◌∷◌, [], IsSome, IfSome, length, map};
 
-use shapes_core::Shape;
+use shapes_core::laws::copies_are_padded;
+use shapes_core::{MOST_AXES, Shape};
 use std::marker::Model;
-
-/// The greatest number of pairs: one an axis.
-const MOST_PAIRS: usize = 6;
 
 /// A box of index vectors: at most 6 pairs, one an axis, each from a low place to below a high one.
 #[derive(Clone, Copy)]
 pub struct Region {
-    list: [(u64, u64); 6],
+    list: [(u64, u64); MOST_AXES],
     count: usize,
 }
 
 impl Model for Region {
     ghost use Rattle.std.specs.Prelude.{ℕ, List, length, take};
-    ghost use Rattle.normal_form.specs.Fills.{IsFilled, filled};
+    ghost use Rattle.shapes_core.specs.Padded.{IsPadded, padded};
 
     ghost Value = { List (ℕ × ℕ) };
 
     ghost view = { λ r. take r.count r.list };
 
-    ghost invariant = { λ r. IsFilled (0, 0) 6 r.list r.count };
+    ghost invariant = { λ r. IsPadded (0, 0) 6 r.list r.count };
 
-    ghost inverse = { λ list. record { list = filled (0, 0) 6 list; count = length list } };
+    ghost inverse = { λ list. record { list = padded (0, 0) 6 list; count = length list } };
 
-    ghost inverse_ok = { λ n h i. record { list = h.fills i; count = h.counted i } };
+    ghost inverse_ok = { λ n h i. record { list = h.filled i; count = h.counted i } };
 }
 
 /// The box of an axis before those of others.
@@ -35,7 +33,7 @@ fn in_front(extent: u64, others: &Region) -> Region
     ensures { result ≡ (0, extent) ∷ others.now }
 {
     let list = others.list();
-    let mut pairs = [(0, extent); MOST_PAIRS];
+    let mut pairs = [(0, extent); MOST_AXES];
     pairs[1..=list.len()].copy_from_slice(list);
     Region::new(&pairs[..=list.len()]).unwrap()
 }
@@ -57,10 +55,11 @@ impl Region {
         ensures within { IsSome result ↔ length list.now ≤ 6 }
         ensures same { IfSome result (λ region. region ≡ list.now) }
     {
-        if list.len() > MOST_PAIRS {
+        if list.len() > MOST_AXES {
             return None;
         }
-        let mut filled = [(0, 0); MOST_PAIRS];
+        copies_are_padded::<(u64, u64)>();
+        let mut filled = [(0, 0); MOST_AXES];
         filled[..list.len()].copy_from_slice(list);
         Some(Region {
             list: filled,

@@ -3,6 +3,7 @@ use Rattle.std.proofs.Common.{◌≡◌, ℕ, ◌*◌, ◌^◌, ◌≤◌, List,
 use Rattle.std.specs.Prelude.{Err, IfOk, IsOk, IsTrue, Ok, Result}
 use Rattle.std.specs.List.{list_all, zip}
 use Rattle.std.proofs.lemmas.List.{length-map}
+use Rattle.shapes_core.specs.Limits.{greatest_size, greatest_work}
 use Rattle.loop_ir.specs.declared.step.Step.{Step}
 use Rattle.loop_ir.specs.Pool.{tree as tree_of_nest}
 use Rattle.loop_ir.specs.Steps.{Steps}
@@ -56,10 +57,10 @@ NestsTakeFewSteps = (text : List ℕ) (tree : Tree) (homes : List Given) → Rea
     → total_time (zip (nests tree.statements) homes) ≤ 1024 * work tree.statements
 
 abbrev pub SizesAreSmall : Type 0
-SizesAreSmall = (text : List ℕ) (tree : Tree) → Reads text tree → IsOk (verdict_of tree.statements) → size tree.statements ≤ 1024
+SizesAreSmall = (text : List ℕ) (tree : Tree) → Reads text tree → IsOk (verdict_of tree.statements) → size tree.statements ≤ greatest_size
 
 abbrev pub WorksAreSmall : Type 0
-WorksAreSmall = (text : List ℕ) (tree : Tree) → Reads text tree → IsOk (verdict_of tree.statements) → work tree.statements ≤ 2 ^ 40
+WorksAreSmall = (text : List ℕ) (tree : Tree) → Reads text tree → IsOk (verdict_of tree.statements) → work tree.statements ≤ greatest_work
 
 abbrev pub ProgramsHaveLines : Type 0
 ProgramsHaveLines = (nests : List (Steps × Given)) (spill : ℕ) → AreReady spill nests → spill ≤ 8192

@@ -6,12 +6,12 @@ mod NestProgramLemmas
 mod NestShapeLemmas
 mod NestSourceLemmas
 pub mod ReadLemmas
-mod ServeAccesses
-mod ServeAreas
-mod ServeInputs
+mod ServeAccessLemmas
+mod ServeAreaLemmas
+mod ServeInputLemmas
 mod ServeLemmas
-mod ServeLists
-mod ServeNests
-mod ServeOperators
-mod ServeSources
+mod ServeListLemmas
+mod ServeNestLemmas
+mod ServeOperatorLemmas
+mod ServeSourceLemmas
 pub mod UnbuiltLemmas

@@ -5,6 +5,7 @@ use Rattle.std.specs.declared.option.Option.{Option}
 use Rattle.std.specs.declared.option.Option.TheVariants.{None, Some}
 use Rattle.std.proofs.Common.{inl, inr, refl, ap, sym, subst, arith}
 use Rattle.std.proofs.lemmas.List.Sums.{sum_by-cons}
+use Rattle.shapes_core.specs.Limits.{most_words}
 use Rattle.shapes_core.specs.declared.area.Area.{Area}
 use Rattle.shapes_core.specs.Shape.{total}
 use Rattle.normal_form.specs.Forms.{Normal}
@@ -104,12 +105,12 @@ within-both a b m n sum most e f (inr h) (inr k) = inr (omega (arith, e, f, h, k
 
 abbrev pub LineLaw : Type 0
 LineLaw = (prices : Prices) (areas : List Area) (words own : ℕ) (shape : List ℕ) (region : List (ℕ × ℕ)) (form : Operational)
-    → AreLow prices → AreLaidOut areas words → words ≤ 134217728 → IsBuildable areas own shape region form
+    → AreLow prices → AreLaidOut areas words → words ≤ most_words → IsBuildable areas own shape region form
     → 1 + cost prices (nest_of areas own shape region form) ≤ 240 * (2 + terms form)
 
 abbrev pub StepLaw : Type 0
 StepLaw = (prices : Prices) (areas : List Area) (words own : ℕ) (shape : List ℕ) (region : List (ℕ × ℕ)) (form : Operational)
-    → AreLow prices → AreLaidOut areas words → words ≤ 134217728 → IsBuildable areas own shape region form
+    → AreLow prices → AreLaidOut areas words → words ≤ most_words → IsBuildable areas own shape region form
     → 1 + time prices (nest_of areas own shape region form) ≤ 1024 * ((1 + places_in region) * (1 + terms form))
 
 by-240 : (a b : ℕ) → 240 * (a + b) ≡ 240 * a + 240 * b
@@ -126,7 +127,7 @@ whole-places [] = refl
 whole-places (n ∷ shape) = let all : n - 0 ≡ n = omega arith in rw (all, whole-places shape) refl
 
 module _ (areas : List Area) (words : ℕ) (low : (given : Given) → AreLow (prices_of given)) (laid : AreLaidOut areas words)
-    (few : words ≤ 134217728) where
+    (few : words ≤ most_words) where
   one-line : LineLaw → (form : Option Normal) (shape : List ℕ) (nest : Steps) (given : Given) → IsNestOf areas form shape nest
       → IsWithin (cost (prices_of given) nest) (240 * form_size form)
   one-line law None shape nest given same = inl (ap (cost (prices_of given)) same)

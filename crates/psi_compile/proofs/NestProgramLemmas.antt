@@ -5,6 +5,7 @@ use Rattle.std.specs.declared.option.Option.{Option}
 use Rattle.std.specs.declared.option.Option.TheVariants.{None, Some}
 use Rattle.std.proofs.Common.{refl}
 use Rattle.std.proofs.lemmas.Bool.{false≢true}
+use Rattle.shapes_core.specs.Limits.{greatest_size, greatest_work, most_words}
 use Rattle.moa_tree.specs.declared.operator.Op.{Op}
 use Rattle.moa_tree.specs.Canonical.{IsBuiltItem, IsWritable}
 use Rattle.moa_tree.specs.Denotation.{Store as Lists}
@@ -58,8 +59,8 @@ pub record BoundLaws : Type 0 where
   pub written : WrittenLaw
   pub nested : NestedLaw
   pub limits : (items : List Item) (shapes : Shapes) → verdict_of items ≡ Ok shapes
-      → (size items ≤ 1024) × (work items ≤ 2 ^ 40) × (words items ≤ 134217728)
-  pub laid : (items : List Item) (shapes : Shapes) → verdict_of items ≡ Ok shapes → AreLaidOut (areas items) (words items)
+      → (size items ≤ greatest_size) × (work items ≤ greatest_work) × (words items ≤ most_words)
+  pub laid : (items : List Item) → AreLaidOut (areas items) (words items)
 
 -- ---- a program
 
@@ -80,7 +81,7 @@ program-nests written nested text tree reads accepted plain =
 pub record IsKnown (items : List Item) : Type 0 where
   pub nested : AreNestsOf (areas items) (forms items) (given [] items) (nests items)
   pub laid : AreLaidOut (areas items) (words items)
-  pub few : words items ≤ 134217728
+  pub few : words items ≤ most_words
   pub output : has_output items ≡ true
 
 pub program-known : BoundLaws → (text : List ℕ) (tree : Tree) → Reads text tree → IsOk (verdict_of tree.statements)
@@ -89,7 +90,7 @@ program-known laws text tree reads accepted plain =
     let found = there (verdict_of tree.statements) accepted in
     record {
       nested = program-nests laws.written laws.nested text tree reads accepted plain;
-      laid = laws.laid tree.statements found.0 found.1;
+      laid = laws.laid tree.statements;
       few = (laws.limits tree.statements found.0 found.1).2;
       output = (laws.written text tree reads).1;
     }

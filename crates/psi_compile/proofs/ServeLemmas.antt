@@ -8,6 +8,7 @@ use Rattle.std.proofs.Math.Facts.{Fits-of_lt, sfits_to_z}
 use Rattle.std.proofs.lemmas.Bool.{false≢true}
 use Rattle.std.proofs.lemmas.Int.{fits_signed_from_abs}
 use Rattle.std.proofs.lemmas.List.FromFn.{length-map-range_with_len}
+use Rattle.shapes_core.specs.Limits.{most_items, most_words}
 use Rattle.moa_tree.specs.Canonical.{IsBuiltItem, IsWritable}
 use Rattle.moa_tree.specs.Denotation.{Store as Lists, denote_from, denote_scans_from}
 use Rattle.moa_tree.specs.Expr.{Item, Tree}
@@ -20,10 +21,10 @@ use Rattle.psi_rules.specs.Areas.{input_list}
 use Rattle.psi_rules.specs.Jobs.{forms}
 use Rattle.psi_rules.specs.Scopes.{job_shapes}
 use Rattle.loop_ir.specs.Fitting.{Fits64, HoldsFit}
-use Rattle.loop_ir.specs.Running.{State}
+use Rattle.loop_ir.specs.Running.{State, run_all}
 use Rattle.loop_ir.specs.Steps.{Steps}
 use Rattle.nest_build.specs.Gives.{AreLaidOut}
-use Rattle.nest_jobs.specs.Leads.{Leads, area_values as job_values, nests, run_all}
+use Rattle.nest_jobs.specs.Leads.{Leads, area_values as job_values, nests}
 use Rattle.register_map.specs.Homes.{Given}
 use Rattle.rv_emit.specs.Emitting.{program}
 use Rattle.rv_emit.specs.Showing.{AreTouches, HasBlock}
@@ -37,12 +38,12 @@ use Rattle.rv_steps.specs.Machine.{Config, address_of, register_at, value_at}
 use Rattle.rv_steps.specs.Stops.{Ends}
 use Rattle.psi_compile.specs.Assigned.{AreAssigned}
 use Rattle.psi_compile.specs.Demands.{denoted}
-use Rattle.psi_compile.proofs.ServeAccesses.{all-fine, all-touches}
-use Rattle.psi_compile.proofs.ServeAreas.{area-same, areas-parts, end_of, in_areas, input-lists-long, ins, out_areas, output-lists-long}
-use Rattle.psi_compile.proofs.ServeAreas.{outputs-kept, outs, placed-many, scan_areas}
-use Rattle.psi_compile.proofs.ServeInputs.{named_inputs}
-use Rattle.psi_compile.proofs.ServeLists.{each-follows, middle-mapped}
-use Rattle.psi_compile.proofs.ServeNests.{AddsLow, WritesOwn, jobs-low, low-all, zip-runs}
+use Rattle.psi_compile.proofs.ServeAccessLemmas.{all-fine, all-touches}
+use Rattle.psi_compile.proofs.ServeAreaLemmas.{area-same, areas-parts, end_of, in_areas, input-lists-long, ins, out_areas, output-lists-long}
+use Rattle.psi_compile.proofs.ServeAreaLemmas.{outputs-kept, outs, placed-many, scan_areas}
+use Rattle.psi_compile.proofs.ServeInputLemmas.{named_inputs}
+use Rattle.psi_compile.proofs.ServeListLemmas.{each-follows, middle-mapped}
+use Rattle.psi_compile.proofs.ServeNestLemmas.{AddsLow, WritesOwn, jobs-low, low-all, zip-runs}
 
 -- ---- what is accepted and read
 
@@ -59,10 +60,10 @@ all-built version items h = each-follows (IsWritable version) IsBuiltItem (λ it
 abbrev pub DoWhatNestsDo : Type 0
 DoWhatNestsDo =
     (lines : List Line) (nests : List (Steps × Given)) (base spill : ℕ) (state : State) (c : Config)
-    → base % 8 ≡ 0 → base + 8 * (spill + length state.words) ≤ 2 ^ 64 → spill ≤ 134217728
+    → base % 8 ≡ 0 → base + 8 * (spill + length state.words) ≤ 2 ^ 64 → spill ≤ most_words
     → AreReady spill nests → HoldsFit state → HasBlock base spill (length state.words) c
     → values_at c.block spill (length state.words) ≡ state.words
-    → lines ≡ (program spill nests 0).lines → length lines ≤ 2 ^ 30
+    → lines ≡ (program spill nests 0).lines → length lines ≤ most_items
     → c.pc ≡ address_of 0 → register_at c.registers 1 ≡ address_of (length lines)
     → AreTouches (length state.words) (run_each nests state)
     → Performs lines base spill (program spill nests 0).steps (are_steady nests) state (run_each nests state) c

@@ -11,9 +11,11 @@ use Rattle.std.proofs.lemmas.Option.{get_or_from_slice_get, none-some, same_Some
 use Rattle.text_tokens.specs.Tokens.{start}
 use Rattle.text_tokens.specs.declared.token.Position.{Position}
 use Rattle.moa_tree.specs.declared.tree.Node.{Node}
+use Rattle.moa_tree.specs.declared.tree.Operands.{Operands}
+use Rattle.moa_tree.specs.declared.tree.Operands.TheVariants as operand
 use Rattle.moa_tree.specs.declared.tree.Statement.{Statement}
 use Rattle.moa_tree.specs.Expr.{Expr}
-use Rattle.moa_tree.specs.Pool.{IsOrdered, expr_of, operands, tree_at, trees, walk_of}
+use Rattle.moa_tree.specs.Pool.{IsOrdered, expr_of, listed, operands, tree_at, trees, walk_of}
 use Rattle.moa_tree.specs.Pools.{Pools, nodes_of, tree_of, walk}
 use Rattle.moa_tree.specs.Positions.{StandsIn}
 use Rattle.moa_tree.specs.Readings.{Reads}
@@ -21,9 +23,7 @@ use Rattle.moa_tree.specs.Subexpressions.{subexpressions_of}
 use Rattle.shape_check.specs.Judged.{node_tree}
 use Rattle.nest_jobs.specs.Plain.{ArePlain, EachPlain, is_plain}
 use Rattle.psi_compile.specs.Built.{IsNotBuilt}
-use Rattle.psi_compile.specs.declared.built.Operands.{Operands}
-use Rattle.psi_compile.specs.declared.built.Operands.TheVariants as operand
-use Rattle.psi_compile.specs.Unbuilt.{first_in, listed}
+use Rattle.psi_compile.specs.Unbuilt.{first_in}
 
 -- one list behind the other
 abbrev pub or_else : Option ℕ → Option ℕ → Option ℕ

@@ -1,4 +1,4 @@
--- What a text is that a program is compiled to.
+-- What a text is that a program is compiled to. This project's own.
 use Rattle.std.specs.Prelude.{ℕ, ◌≡◌, ◌≤◌, ◌*◌, IsOk, IsTrue, Bool, true, List, length}
 use Rattle.std.specs.List.{AllByRecursion, list_all}
 use Rattle.moa_tree.specs.declared.operator.Op.{Op}

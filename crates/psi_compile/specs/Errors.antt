@@ -1,4 +1,4 @@
--- Why a source is not compiled.
+-- Why a source is not compiled. This project's own.
 use Rattle.std.specs.Prelude.{◌≡◌, ℕ, List, slice_index_or, Err, ⊤}
 use Rattle.std.specs.Option.{option_map}
 use Rattle.text_tokens.specs.declared.token.Position.{Position}

@@ -5,16 +5,8 @@ use Rattle.std.specs.declared.option.Option.TheVariants.{None, Some}
 use Rattle.moa_tree.specs.Pools.{Pools}
 use Rattle.shape_check.specs.Judged.{node_tree}
 use Rattle.nest_jobs.specs.Plain.{is_plain}
-use Rattle.psi_compile.specs.declared.built.Operands.{Operands}
-use Rattle.psi_compile.specs.declared.built.Operands.TheVariants as operand
 
 -- the first of these nodes
 abbrev pub first_in : Pools → List ℕ → Option ℕ
 first_in pools [] = None
 first_in pools (number ∷ numbers) = if is_plain (node_tree pools number) then first_in pools numbers else Some number
-
--- the operands of a node, in order
-abbrev pub listed : Operands → List ℕ
-listed operand.None = []
-listed (operand.One of) = of ∷ []
-listed (operand.Two left right) = left ∷ right ∷ []

@@ -1,55 +1,24 @@
 // Whether a program is built so far.
 ghost use Rattle.std.specs.Prelude.{◌≡◌, ◌≤◌, ◌<◌, ℕ, ℤ, IfErr, IfOk, List, MatchOption, length};
 ghost use Rattle.std.specs.List.{AllByRecursion, flat_map};
+ghost use Rattle.moa_reader.specs.Limits.{longest_source};
 ghost use Rattle.moa_tree.specs.Expr.{Expr};
-ghost use Rattle.moa_tree.specs.Pool.{expr_of, operands, walk_of};
+ghost use Rattle.moa_tree.specs.Pool.{expr_of, walk_of};
 ghost use Rattle.moa_tree.specs.Pools.{IsProgram, nodes_of, tree_of, walk};
 ghost use Rattle.moa_tree.specs.Positions.{StandsIn};
 ghost use Rattle.moa_tree.specs.Readings.{Reads};
 ghost use Rattle.nest_jobs.specs.Plain.{ArePlain, is_plain};
 ghost use Rattle.psi_compile.specs.Built.{IsNotBuilt};
 ghost use Rattle.psi_compile.specs.Errors.{IsBuiltFirst, IsCause};
-ghost use Rattle.psi_compile.specs.Unbuilt.{first_in, listed};
+ghost use Rattle.psi_compile.specs.Unbuilt.{first_in};
 
 use crate::error::CompileError;
 use crate::laws::causes_are_kept;
 use moa_reader::read;
-use moa_tree::{Node, Program, Statement, node_trees, parts_are_there, walks_in_order};
+use moa_tree::{Node, Operands, Program, Statement, node_trees, parts_are_there, walks_in_order};
 use shape_check::{Checked, check};
 use std::alloc::Global;
 use text_tokens::Position;
-
-/// The nodes on which a node works.
-enum Operands {
-    None,
-    One(u32),
-    Two(u32, u32),
-}
-
-/// The nodes on which a node works, from the left.
-fn operands_of(node: &Node) -> Operands
-    ensures { listed result ≡ operands node.now }
-{
-    match node {
-        Node::Number(_) | Node::Use(_) | Node::Iota(_) => Operands::None,
-        Node::One { of, .. }
-        | Node::Psi { of, .. }
-        | Node::Take { of, .. }
-        | Node::Drop { of, .. }
-        | Node::Reverse { of }
-        | Node::Rotate { of, .. }
-        | Node::Transpose { of }
-        | Node::Permute { of, .. }
-        | Node::Reshape { of, .. }
-        | Node::Ravel { of }
-        | Node::Reduce { of, .. }
-        | Node::Scan { of, .. } => Operands::One(*of),
-        Node::Two { left, right, .. }
-        | Node::Cat { left, right }
-        | Node::Outer { left, right, .. }
-        | Node::Inner { left, right, .. } => Operands::Two(*left, *right),
-    }
-}
 
 /// Whether the operator of a node is built: it makes no choice, no fold and no binding.
 fn is_built(node: &Node) -> bool
@@ -84,7 +53,7 @@ fn first_below(program: &Program, number: u32) -> Option<u32>
     if !is_built(&node) {
         return Some(number);
     }
-    match operands_of(&node) {
+    match node.operands() {
         Operands::None => None,
         Operands::One(of) => first_below(program, of),
         Operands::Two(left, right) => match first_below(program, left) {
@@ -142,7 +111,7 @@ fn first_unbuilt(program: &Program) -> Option<Position>
 /// refused where the reader refuses it, and else where it has an expression that is not built, at
 /// the first one, and else where the check refuses it.
 pub fn built_program(alloc: Global, source: &[u8]) -> Result<Checked, CompileError>
-    requires { length source.now ≤ 1048576 }
+    requires { length source.now ≤ longest_source }
     ensures read { IfOk result (λ checked. Reads source.now (tree_of checked.pools)) }
     ensures plain { IfOk result (λ checked. ArePlain (tree_of checked.pools).statements) }
     ensures causes { IfErr result (λ error. IsCause source.now error) }

@@ -1,5 +1,6 @@
 // From a source to the text that it is compiled to.
 ghost use Rattle.std.specs.Prelude.{◌≤◌, IfErr, IfOk, length};
+ghost use Rattle.moa_reader.specs.Limits.{longest_source};
 ghost use Rattle.moa_tree.specs.Expr.{Tree};
 ghost use Rattle.moa_tree.specs.Pools.{tree_of};
 ghost use Rattle.moa_tree.specs.Readings.{Reads};
@@ -43,7 +44,7 @@ fn assembly_of(alloc: Global, checked: &Checked) -> Result<Assembly, NoMemory>
 /// denotes. A source is refused where the reader refuses it, and else where it has an expression
 /// that is not built, at the first one, and else where the check refuses it.
 pub fn compile(alloc: Global, source: &[u8]) -> Result<Vec<u8>, CompileError>
-    requires { length source.now ≤ 1048576 }
+    requires { length source.now ≤ longest_source }
     ensures compiled { IfOk result (λ text.
         (tree : Tree) × Reads source.now tree × IsCompiled tree text.items) }
     ensures causes { IfErr result (λ error. IsCause source.now error) }

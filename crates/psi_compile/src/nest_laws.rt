@@ -1,6 +1,7 @@
 // Laws of the nests of a program that is compiled, as clauses of functions that do nothing.
 ghost use Rattle.std.specs.List.{zip};
 ghost use Rattle.std.specs.Prelude.{◌*◌, ◌^◌, ◌≤◌, ℕ, IsOk, List};
+ghost use Rattle.shapes_core.specs.Limits.{greatest_size, greatest_work};
 ghost use Rattle.moa_tree.specs.Expr.{Tree};
 ghost use Rattle.moa_tree.specs.Readings.{Reads};
 ghost use Rattle.nest_jobs.specs.Leads.{nests};
@@ -52,9 +53,9 @@ pub fn nests_are_small()
         → AreAssigned (nests tree.statements) homes
         → total_time (zip (nests tree.statements) homes) ≤ 1024 * work tree.statements }
     ensures size { (text : List ℕ) (tree : Tree) → Reads text tree
-        → IsOk (verdict_of tree.statements) → size tree.statements ≤ 1024 }
+        → IsOk (verdict_of tree.statements) → size tree.statements ≤ greatest_size }
     ensures work { (text : List ℕ) (tree : Tree) → Reads text tree
-        → IsOk (verdict_of tree.statements) → work tree.statements ≤ 2 ^ 40 }
+        → IsOk (verdict_of tree.statements) → work tree.statements ≤ greatest_work }
 {
     areas_are_laid_out();
     constants_are_short();

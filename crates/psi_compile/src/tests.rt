@@ -1,5 +1,6 @@
 // A source that is compiled, one that is built, and one for each way to be refused.
 ghost use Rattle.std.specs.Prelude.{◌≤◌, length};
+ghost use Rattle.moa_reader.specs.Limits.{longest_source};
 
 use super::*;
 use std::alloc::Global;
@@ -8,7 +9,7 @@ use text_tokens::Position;
 
 /// Why a source is not built and accepted, if it is not.
 fn refusal(alloc: Global, source: &[u8]) -> Option<CompileError>
-    requires { length source.now ≤ 1048576 }
+    requires { length source.now ≤ longest_source }
 {
     match built_program(alloc, source) {
         Ok(_) => None,

@@ -1,3 +1,4 @@
+-- The files of a map from names to bytes: what is found by a name, and what an insertion makes of them.
 use Rattle.std.proofs.Common.{◌≡◌, ℕ, List, [], ◌∷◌, Bool, true, false, cond, map, refl, sym, ap, ◌∙◌}
 use Rattle.std.specs.Prelude.{Option, Some, None, Vec, String}
 use Rattle.std.specs.Option.{option_map}

@@ -1,3 +1,4 @@
+-- Counts of faults, and what a call that fails or succeeds has to do with them. This project's own.
 use Rattle.std.specs.Prelude.{◌≡◌, ℕ, ◌+◌, ◌-◌, ◌^◌, ◌≤◌, min, OnErr, OnOk, Result}
 
 -- a count that rises by an amount, and stands still at the greatest number of 64 bits

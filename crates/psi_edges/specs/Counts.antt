@@ -1,3 +1,4 @@
+-- What a shelf keeps count of. This project's own.
 use Rattle.std.specs.Prelude.{ℕ, List, [], refl}
 use Rattle.std.specs.Coded.{Coded, code_by, coded×, coded_ℕ, coded_list}
 

@@ -1,3 +1,4 @@
+-- The files that a shelf tells, and the bytes of one that a call gives. This project's own.
 use Rattle.std.specs.Prelude.{ℕ, ◌-◌, ◌≡◌, ◌≤◌, ◌↔◌, ◌++◌, List, length, take, drop, Option, Some, None, IsSomeAnd}
 use Rattle.std.specs.Ordering.{nat_cmp}
 use Rattle.std.specs.Cmp.Lexicographic.{slice_cmp}

@@ -1,3 +1,4 @@
+-- The bytes that a sink tells that it holds, before and after a call. This project's own.
 use Rattle.std.specs.Prelude.{ℕ, ◌≡◌, ◌≤◌, ◌++◌, List, length, take, Option, Result, MatchResult}
 use Rattle.std.specs.Option.{option_map}
 

@@ -1,3 +1,4 @@
+-- What is known of a shelf and of a sink in memory, and which of their calls fail. This project's own.
 use Rattle.std.specs.Prelude.{ℕ, List, [], Bool, map, nat_eq, nat_le, is_none, ◌||◌, length, refl, Vec, String}
 use Rattle.std.specs.List.{list_any}
 use Rattle.std.specs.FinMap as finite

@@ -5,8 +5,12 @@
 
 mod disk;
 mod examples;
+mod failed;
+mod kept_name;
+mod limits;
 mod memory_shelf;
 mod memory_sink;
+mod open_file;
 mod shelf;
 mod sink;
 mod standard;
@@ -17,9 +21,11 @@ mod whole;
 
 pub use disk::DiskShelf;
 pub use examples::cause_examples;
+pub use failed::Failed;
+pub use limits::LONGEST_NAME;
 pub use memory_shelf::MemoryShelf;
 pub use memory_sink::MemorySink;
-pub use shelf::{Failed, Shelf};
+pub use shelf::Shelf;
 pub use sink::Sink;
 pub use standard::{ErrSink, OutSink, StreamSink};
 pub use whole::{Fetch, WriteFault, read_whole, write_whole};

@@ -2,11 +2,13 @@
 ghost use Rattle.std.specs.Prelude.{◌≡◌, ◌↔◌, ◌-◌, ◌^◌, ◌<◌, ◌≤◌, ◌++◌, ◌∷◌, [], Some, length, min, IsErr, IsTrue, IsSomeAnd, IfOk, OnOk, OnErr, MatchResult};
 ghost use Rattle.std.specs.Option.{option_map};
 ghost use Rattle.std.specs.FinMap.{get, insert};
+ghost use Rattle.psi_edges.specs.Limits.{longest_name};
 ghost use Rattle.psi_edges.specs.Causes.{HasCause, raised};
 ghost use Rattle.psi_edges.specs.Files.{Gives};
 ghost use Rattle.psi_edges.specs.Memory.{empty_shelf, files_of, take_fails};
 
-use crate::shelf::{Failed, Shelf};
+use crate::failed::Failed;
+use crate::shelf::Shelf;
 use crate::tally::Tally;
 use shapes_core::NoMemory;
 use std::alloc::Global;
@@ -84,7 +86,7 @@ impl Shelf for MemoryShelf {
     ghost given = { λ s. s.given };
 
     fn take(&mut self, name: &str, at: u64, into: &mut [u8]) -> Result<usize, Failed>
-        requires short_name { length name.now ≤ 4096 }
+        requires short_name { length name.now ≤ longest_name }
         requires near { at ≤ 2 ^ 32 }
         requires room { 0 < length into.old }
         ensures fails { IsErr result ↔ IsTrue (take_fails self.old name.now) }

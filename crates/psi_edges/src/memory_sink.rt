@@ -4,7 +4,7 @@ ghost use Rattle.psi_edges.specs.Causes.{HasCause, raised};
 ghost use Rattle.psi_edges.specs.Held.{Puts};
 ghost use Rattle.psi_edges.specs.Memory.{empty_sink, put_fails};
 
-use crate::shelf::Failed;
+use crate::failed::Failed;
 use crate::sink::Sink;
 use shapes_core::NoMemory;
 use std::alloc::Global;

@@ -1,11 +1,10 @@
 // A shelf: files that are taken from piece by piece.
 ghost use Rattle.std.specs.Prelude.{◌≡◌, ℕ, ◌-◌, ◌^◌, ◌<◌, ◌≤◌, List, Option, length, IfOk, MatchResult};
+ghost use Rattle.psi_edges.specs.Limits.{longest_name};
 ghost use Rattle.psi_edges.specs.Causes.{HasCause, raised};
 ghost use Rattle.psi_edges.specs.Files.{Files, Gives, OnFile};
 
-/// A call to the outside failed.
-#[derive(Clone, Copy, Debug, PartialEq, Eq)]
-pub struct Failed;
+use crate::failed::Failed;
 
 /// Files that are taken from by name. No call changes them.
 pub trait Shelf {
@@ -25,7 +24,7 @@ pub trait Shelf {
     /// `Ok(0)` says that the file ends at `at` or before. A name that the shelf lacks is a failure.
     /// A failed call may change `into`.
     fn take(&mut self, name: &str, at: u64, into: &mut [u8]) -> Result<usize, Failed>
-        requires short_name { length name.now ≤ 4096 }
+        requires short_name { length name.now ≤ longest_name }
         requires near { at ≤ 2 ^ 32 }
         requires room { 0 < length into.old }
         ensures within { IfOk result (λ count. count ≤ length into.old) }

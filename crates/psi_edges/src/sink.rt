@@ -3,7 +3,7 @@ ghost use Rattle.std.specs.Prelude.{◌≡◌, ℕ, ◌<◌, ◌≤◌, List, Op
 ghost use Rattle.psi_edges.specs.Causes.{HasCause};
 ghost use Rattle.psi_edges.specs.Held.{Puts};
 
-use crate::shelf::Failed;
+use crate::failed::Failed;
 
 /// Where bytes are put, one piece after another.
 pub trait Sink {

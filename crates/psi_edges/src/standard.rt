@@ -3,7 +3,7 @@ ghost use Rattle.std.specs.Prelude.{◌≡◌, ◌≤◌, ◌<◌, length, IfOk,
 ghost use Rattle.psi_edges.specs.Causes.{HasCause, raised};
 ghost use Rattle.psi_edges.specs.Held.{Puts};
 
-use crate::shelf::Failed;
+use crate::failed::Failed;
 use crate::sink::Sink;
 use std::io::{Stderr, Stdout, Write};
 use std::marker::Model;

@@ -1,7 +1,8 @@
 // Each shelf and each sink on its happy path, where a call of it is named to fail, and where the outside refuses.
 ghost use Rattle.std.specs.Prelude.{◌^◌, ◌<◌, ◌≤◌, length};
+ghost use Rattle.psi_edges.specs.Limits.{longest_name};
 
-use crate::disk::seek_and_read;
+use crate::open_file::OpenFile;
 use crate::*;
 use std::alloc::Global;
 use std::io::{Read, Seek, SeekFrom, Write};
@@ -15,7 +16,7 @@ fn length_read<F: Shelf>(
     name: &str,
     limit: u64,
 ) -> Result<usize, Fetch>
-    requires short_name { length name.now ≤ 4096 }
+    requires short_name { length name.now ≤ longest_name }
     requires small_limit { limit < 2 ^ 32 }
 {
     let bytes = read_whole(alloc, shelf, name, limit)?;
@@ -121,14 +122,21 @@ fn a_whole_file_is_read_up_to_the_limit(rt: HostRuntime) -> Result<(), Fail> {
     Ok(())
 }
 
+/// The path of a file for a test.
+fn temporary(rt: &HostRuntime, word: &str) -> Result<String, Fail> {
+    let folder = env::temp_dir(rt)?;
+    let path = format!(in rt.alloc();
+        "{}/psi_edges_{}_{}",
+        folder.display(),
+        process::id(rt.process()),
+        word
+    )?;
+    Ok(path)
+}
+
 #[test]
 fn a_real_file_is_read_whole(rt: HostRuntime) -> Result<(), Fail> {
-    let folder = env::temp_dir(&rt)?;
-    let path = format!(in rt.alloc();
-        "{}/psi_edges_{}",
-        folder.display(),
-        process::id(rt.process())
-    )?;
+    let path = temporary(&rt, "whole")?;
     assert!(rt; path.len() <= 4096);
     let long = vec![in rt.alloc(); 7u8; 5000]?;
     fs::write(&rt, path.as_str(), long.as_slice())?;
@@ -146,6 +154,40 @@ fn a_real_file_is_read_whole(rt: HostRuntime) -> Result<(), Fail> {
         length_read(rt.alloc(), &mut shelf, ".", 5),
         Err(Fetch::Fault)
     );
+    Ok(())
+}
+
+/// Whether a `take` with room for four bytes gives these bytes.
+fn gives<F: Shelf>(shelf: &mut F, name: &str, at: u32, bytes: &[u8]) -> bool
+    requires { length name.now ≤ longest_name }
+{
+    let mut into = [0u8; 4];
+    match shelf.take(name, at.into(), &mut into) {
+        Ok(count) => &into[..count] == bytes,
+        Err(Failed) => false,
+    }
+}
+
+#[test]
+fn a_real_file_stays_open_until_another_is_taken_from(rt: HostRuntime) -> Result<(), Fail> {
+    let first = temporary(&rt, "first")?;
+    let second = temporary(&rt, "second")?;
+    assert!(rt; first.len() <= 4096 && second.len() <= 4096);
+    fs::write(&rt, first.as_str(), "0123456789")?;
+    fs::write(&rt, second.as_str(), "abc")?;
+    let mut shelf = DiskShelf::new(&rt);
+    assert!(rt; gives(&mut shelf, &first, 0, b"0123"));
+    // What is removed can be read on, and cannot be opened again.
+    fs::remove_file(&rt, first.as_str())?;
+    assert!(rt; gives(&mut shelf, &first, 4, b"4567") && gives(&mut shelf, &first, 8, b"89"));
+    assert!(rt; gives(&mut shelf, &first, 10, b"") && gives(&mut shelf, &first, 3, b"3456"));
+    assert!(rt; gives(&mut shelf, &second, 0, b"abc"));
+    assert_eq!(rt; shelf.take(&first, 0, &mut [0u8; 4]), Err(Failed));
+    fs::write(&rt, first.as_str(), "9876543210")?;
+    assert!(rt; gives(&mut shelf, &first, 2, b"7654") && gives(&mut shelf, &second, 1, b"bc"));
+    assert!(rt; gives(&mut shelf, &first, 0, b"9876"));
+    fs::remove_file(&rt, first.as_str())?;
+    fs::remove_file(&rt, second.as_str())?;
     Ok(())
 }
 
@@ -190,27 +232,46 @@ impl Seek for ShortFile<'_> {
     }
 }
 
+/// An open file of the ten digits that refuses this.
+fn ten_digits(refused: Refused) -> OpenFile<ShortFile<'static>> {
+    OpenFile::new(ShortFile {
+        bytes: b"0123456789",
+        position: 0,
+        refused,
+    })
+}
+
 #[test]
-fn a_file_gives_each_byte_once_whatever_its_position(rt: HostRuntime) -> Result<(), Fail> {
+fn a_file_that_cannot_seek_is_read_from_front_to_end(rt: HostRuntime) -> Result<(), Fail> {
     let mut into = [0u8; 4];
     let mut taken = Vec::new(rt.alloc());
-    let mut file = ShortFile {
-        bytes: b"0123456789",
-        position: 7,
-        refused: Refused::Nothing,
-    };
-    for want in [3, 3, 3, 1, 0] {
-        let at = taken.len() as u64;
-        let count = seek_and_read(&mut file, at, &mut into)?;
-        taken.extend_from_slice(&into[..count])?;
+    let mut pipe = ten_digits(Refused::Seek);
+    for (at, want) in [(0u32, 3), (3, 3), (6, 3), (9, 1), (10, 0)] {
+        let count = pipe.read_from(at.into(), &mut into)?;
         assert_eq!(rt; count, want);
-        assert_eq!(rt; file.position, taken.len());
+        taken.extend_from_slice(&into[..count])?;
     }
     assert_eq!(rt; taken.as_slice(), b"0123456789".as_slice());
-    for refused in [Refused::Seek, Refused::Read] {
-        file.refused = refused;
-        assert!(rt; seek_and_read(&mut file, 0, &mut into).is_err());
+    assert!(rt; pipe.read_from(9, &mut into).is_err());
+    Ok(())
+}
+
+#[test]
+fn a_file_is_read_from_each_place_wherever_it_stands(rt: HostRuntime) -> Result<(), Fail> {
+    let mut into = [0u8; 4];
+    let mut file = ten_digits(Refused::Nothing);
+    for (at, want, first) in [
+        (7u32, 3, b'7'),
+        (0, 3, b'0'),
+        (2, 3, b'2'),
+        (5, 3, b'5'),
+        (9, 1, b'9'),
+    ] {
+        assert_eq!(rt; file.read_from(at.into(), &mut into)?, want);
+        assert_eq!(rt; into[0], first);
     }
+    assert_eq!(rt; file.read_from(12, &mut into)?, 0);
+    assert!(rt; ten_digits(Refused::Read).read_from(0, &mut into).is_err());
     Ok(())
 }
 

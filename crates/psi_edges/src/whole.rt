@@ -1,10 +1,12 @@
 // Whole files in and whole texts out, over any shelf and any sink.
 ghost use Rattle.std.specs.Prelude.{◌≡◌, ◌≢◌, ℕ, ◌+◌, ◌-◌, ◌^◌, ◌<◌, ◌≤◌, ◌++◌, List, length, take, IfOk, OnOk, OnErr, IsErrOf, vec_len};
+ghost use Rattle.psi_edges.specs.Limits.{longest_name};
 ghost use Rattle.psi_edges.specs.Causes.{HasCause, Rose, raised};
 ghost use Rattle.psi_edges.specs.Files.{OnFile, IsNext};
 ghost use Rattle.psi_edges.specs.Held.{Appends, AppendsFront};
 
-use crate::shelf::{Failed, Shelf};
+use crate::failed::Failed;
+use crate::shelf::Shelf;
 use crate::sink::Sink;
 use std::alloc::Global;
 
@@ -32,7 +34,7 @@ pub fn read_whole<F: Shelf>(
     name: &str,
     limit: u64,
 ) -> Result<Vec<u8>, Fetch>
-    requires short_name { length name.now ≤ 4096 }
+    requires short_name { length name.now ≤ longest_name }
     requires small_limit { limit < 2 ^ 32 }
     ensures short { IfOk result (λ bytes. vec_len bytes ≤ limit) }
     // Where the shelf tells its files, the whole file comes, and `TooLong` exactly for a longer one.
@@ -72,7 +74,7 @@ fn take_piece<F: Shelf>(
     bytes: &mut Vec<u8>,
     most: u64,
 ) -> Result<usize, Fetch>
-    requires short_name { length name.now ≤ 4096 }
+    requires short_name { length name.now ≤ longest_name }
     requires room { vec_len bytes.old < most }
     requires small { most ≤ 2 ^ 32 }
     ensures next { IfOk result (λ count. OnFile (F.files shelf.old) name.now

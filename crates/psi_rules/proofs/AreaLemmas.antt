@@ -6,13 +6,13 @@ use Rattle.std.proofs.lemmas.List.{length-append, length-map}
 use Rattle.std.proofs.lemmas.List.Sums.{sum_by-cons}
 use Rattle.std.proofs.lemmas.Option.{get_or_from_slice_get}
 use Rattle.shapes_core.specs.Gamma.{IsIndex, gamma}
-use Rattle.moa_tree.specs.Denotation.{Store as Lists, after, denote_from, output_list, outputs_of, values}
+use Rattle.moa_tree.specs.Denotation.{Store as Lists, env_after, denote_from, output_list, outputs_of, values}
 use Rattle.moa_tree.specs.Expr.{Expr, Item, Input, Let, Output}
 use Rattle.moa_tree.specs.Values.{Env, element, shape_in, value}
 use Rattle.shape_check.specs.Jobs.{input_count, output_count}
 use Rattle.psi_rules.specs.Agrees.{HoldEach}
 use Rattle.psi_rules.specs.Areas.{input_list}
-use Rattle.psi_rules.proofs.ListLemmas.{AreAt}
+use Rattle.psi_rules.specs.Blocks.{AreAt}
 
 -- ---- how many lists there are
 
@@ -35,7 +35,7 @@ output-counted env (Output name of) = refl
 denoted-counted : (inputs : Lists) (env : Env) (items : List Item) → length (denote_from inputs env items) ≡ sum_by output_count items
 denoted-counted inputs env [] = refl
 denoted-counted inputs env (item ∷ items) =
-    let later = after inputs env item in
+    let later = env_after inputs env item in
     let both = length-append (outputs_of env item) (denote_from inputs later items) in
     omega (arith, both, denoted-counted inputs later items, output-counted env item, sum_by-cons output_count item items)
 

@@ -5,7 +5,7 @@ use Rattle.std.specs.declared.option.Option.TheVariants.{Some}
 use Rattle.std.proofs.Common.{sym, subst, ap}
 use Rattle.moa_tree.specs.Canonical.{IsBuilt, IsBuiltItem}
 use Rattle.moa_tree.specs.declared.operator.Op.{Op}
-use Rattle.moa_tree.specs.Denotation.{Store as Lists, after, scans_of}
+use Rattle.moa_tree.specs.Denotation.{Store as Lists, env_after, scans_of}
 use Rattle.moa_tree.specs.Expr.{Expr, Scan, Item, Input, Let, Output}
 use Rattle.moa_tree.specs.Readings.{deepest}
 use Rattle.moa_tree.specs.ShapeOf.{shape_of}
@@ -77,7 +77,7 @@ module _ (along : ScansAlong) (operand : (names : Names) → OperandsMove (shape
   program-folds inputs [] names env next node same accepted built = tt
   program-folds inputs (item ∷ items) names env next node same accepted built =
       let known = subst (λ shapes. IsAcceptedItem shapes item) same accepted.0 in
-      let later = after inputs env item in
+      let later = env_after inputs env item in
       let rest = program-folds inputs items (named names next item ∷ names) later (next_after next item)
       (node + length (subexpressions_of item))
       (shapes-alike inputs env names next item same) accepted.1 built.1 in

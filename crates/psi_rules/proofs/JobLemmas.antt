@@ -1,19 +1,18 @@
 -- The forms of an accepted program's jobs give the arrays of its jobs: from one statement to the next.
-use Rattle.std.specs.Prelude.{◌≡◌, ℕ, ◌+◌, ℤ, pos, List, [], ◌∷◌, ◌++◌, length, map, reverse, slice_get, slice_index_or, Some, Result, Ok, Err, IsOk}
-use Rattle.std.specs.List.{AllByRecursion, flat_map, fold, sum_by}
-use Rattle.std.proofs.Common.{refl, ap, sym, subst, ◌∙◌, arith}
+use Rattle.std.specs.Prelude.{◌≡◌, ℕ, ◌+◌, ℤ, pos, List, [], ◌∷◌, ◌++◌, map, reverse, slice_get, slice_index_or, Some, Result, Ok, Err, IsOk}
+use Rattle.std.specs.List.{AllByRecursion, flat_map, fold}
+use Rattle.std.proofs.Common.{refl, ap, sym, subst, ◌∙◌}
 use Rattle.std.proofs.lemmas.Bool.{false≢true}
 use Rattle.std.proofs.lemmas.List.{append_assoc, length-map, map-append}
 use Rattle.std.proofs.lemmas.List.Sums.{fold-append}
 use Rattle.std.proofs.lemmas.Option.{get_or_from_slice_get}
 use Rattle.shapes_core.specs.Gamma.{gamma}
 use Rattle.moa_tree.specs.Axes.{naturals}
-use Rattle.moa_tree.specs.Denotation.{Store as Lists, after, after_all, denote_from, denote_scans_from, output_list, outputs_of, scans_of, values}
+use Rattle.moa_tree.specs.Denotation.{Store as Lists, env_after, env_after_all, denote_from, denote_scans_from, output_list, outputs_of, scans_of, values}
 use Rattle.moa_tree.specs.Expr.{Expr, Item, Input, Let, Output}
 use Rattle.moa_tree.specs.ShapeOf.{Shapes, beside, shape_of}
 use Rattle.moa_tree.specs.Subexpressions.{subexpressions}
 use Rattle.moa_tree.specs.Values.{Env, element, shape_in, shapes_of, value}
-use Rattle.shape_check.specs.Jobs.{input_count, output_count}
 use Rattle.shape_check.specs.Layout.{shapes_after}
 use Rattle.shape_check.specs.Statements.{verdict_of}
 use Rattle.shape_check.specs.Verdict.{verdict}
@@ -21,12 +20,14 @@ use Rattle.normal_form.specs.Meaning.{Store}
 use Rattle.normal_form.specs.Stands.{Represents}
 use Rattle.psi_rules.specs.Agrees.{AreFormsOf, AreNamed, HoldEach, IsFormOf}
 use Rattle.psi_rules.specs.Areas.{area_lists, given, given_from, input_list, store, task_given}
+use Rattle.psi_rules.specs.Blocks.{AreAt}
 use Rattle.psi_rules.specs.Jobs.{Next, Task, first, forms, forms_from, job_form, named, next_after, scanned, task_form, tasks_of}
 use Rattle.psi_rules.specs.Operands.{IsAccepted, OperandsMove}
 use Rattle.psi_rules.specs.Rules.{Names, form, loading, shape_in as named_shape}
-use Rattle.psi_rules.proofs.AreaLemmas.{ReadBack, hold-each, input-counted, inputs-counted, output-counted, outputs-counted}
+use Rattle.psi_rules.proofs.AreaLemmas.{ReadBack, hold-each, input-counted, output-counted}
+use Rattle.psi_rules.proofs.BlockLemmas.{lists-stand}
 use Rattle.psi_rules.proofs.FormLemmas.{represents-same, same-shapes}
-use Rattle.psi_rules.proofs.ListLemmas.{AreAt, at-both, at-here, each-append, each-reverse, zip-append, zip-mapped}
+use Rattle.psi_rules.proofs.ListLemmas.{at-both, each-append, each-reverse, zip-append, zip-mapped}
 use Rattle.psi_rules.proofs.TaskLemmas.{GivesAll, IsGiven, job-is-form, scans-given}
 
 -- ---- what is accepted
@@ -44,7 +45,7 @@ IsAcceptedItem shapes (Output name of) = IsAccepted shapes of
 -- each statement among the names before it
 abbrev pub AreAccepted : Lists → Env → List Item → Type 0
 AreAccepted inputs env [] = Unit {0}
-AreAccepted inputs env (item ∷ items) = IsAcceptedItem (shapes_of env) item × AreAccepted inputs (after inputs env item) items
+AreAccepted inputs env (item ∷ items) = IsAcceptedItem (shapes_of env) item × AreAccepted inputs (env_after inputs env item) items
 
 -- in an accepted program the expressions of statements of one kind are accepted
 abbrev pub AcceptsEach : (List ℕ → Expr → Item) → Type 0
@@ -54,7 +55,7 @@ AcceptsEach statement =
 
 -- the names after some statements have the shapes of the statements
 abbrev pub ShapesAfter : Type 0
-ShapesAfter = (inputs : Lists) (env : Env) (items : List Item) → shapes_of (after_all inputs env items) ≡ fold shapes_after (shapes_of env) items
+ShapesAfter = (inputs : Lists) (env : Env) (items : List Item) → shapes_of (env_after_all inputs env items) ≡ fold shapes_after (shapes_of env) items
 
 item-accepted : AcceptsEach Let → AcceptsEach Output → (before behind : List Item) (item : Item) (shapes : Shapes)
     → verdict_of (before ++ item ∷ behind) ≡ Ok shapes
@@ -64,13 +65,13 @@ item-accepted lets outputs before behind (Let name of) shapes h = lets before be
 item-accepted lets outputs before behind (Output name of) shapes h = outputs before behind name of shapes h 0
 
 pub items-accepted : AcceptsEach Let → AcceptsEach Output → ShapesAfter → (inputs : Lists) (before items : List Item) (shapes : Shapes)
-    → verdict_of (before ++ items) ≡ Ok shapes → AreAccepted inputs (after_all inputs [] before) items
+    → verdict_of (before ++ items) ≡ Ok shapes → AreAccepted inputs (env_after_all inputs [] before) items
 items-accepted lets outputs known inputs before [] shapes h = tt
 items-accepted lets outputs known inputs before (item ∷ items) shapes h =
     let more = before ++ item ∷ [] in
     let whole = ap verdict_of (append_assoc before (item ∷ []) items) ∙ h in (
       subst (λ t. IsAcceptedItem t item) (sym (known inputs [] before)) (item-accepted lets outputs before items item shapes h),
-      subst (λ env. AreAccepted inputs env items) (fold-append (after inputs) [] before (item ∷ []))
+      subst (λ env. AreAccepted inputs env items) (fold-append (env_after inputs) [] before (item ∷ []))
           (items-accepted lets outputs known inputs more items shapes whole),
     )
 
@@ -97,7 +98,7 @@ module _ (areas : List (List ℤ)) where
 
     names-after : (names : Names) (env : Env) (next : Next) (item : Item) → AreNamed held names env → IsAcceptedItem (shapes_of env) item
         → AreAt areas next.input (input_list inputs item) → AreAt areas next.output (map (λ output. output.1) (outputs_of env item))
-        → HoldEach held env next.scan (scans_of item) → AreNamed held (named names next item ∷ names) (after inputs env item)
+        → HoldEach held env next.scan (scans_of item) → AreNamed held (named names next item ∷ names) (env_after inputs env item)
     names-after names env next (Input name extents) agree accepted ins outs scans =
         ((refl, refl, stored-represents loads next.input (naturals extents) (beside [] inputs name) ins.0), agree)
     names-after names env next (Let name of) agree accepted ins outs scans =
@@ -143,7 +144,7 @@ module _ (areas : List (List ℤ)) where
         → AreFormsOf held (forms_from names next items) (given_from inputs env next items)
     jobs-given [] names env next agree accepted ins outs scans = tt
     jobs-given (item ∷ items) names env next agree accepted ins outs scans =
-        let later = after inputs env item in
+        let later = env_after inputs env item in
         let behind = denote_from inputs later items in
         let in-parts = at-both areas next.input (input_list inputs item) (flat_map (input_list inputs) items) ins in
         let out-parts = at-both areas next.output (map (λ output. output.1) (outputs_of env item)) (map (λ output. output.1) behind)
@@ -168,14 +169,5 @@ pub program-given : ReadBack → (inputs : Lists) (items : List Item) → Loads 
     → ((shapes : Shapes) → OperandsMove shapes)
     → AreAccepted inputs [] items → AreFormsOf (store inputs items) (forms items) (given inputs items)
 program-given back inputs items loads gives operand accepted =
-    let areas = area_lists inputs items in
-    let ins = flat_map (input_list inputs) items in
-    let outs = map (λ output. output.1) (denote_from inputs [] items) in
-    let scans = denote_scans_from inputs [] items in
-    let parts = at-both areas 0 ins (outs ++ scans) (at-here areas) in
-    let more = at-both areas (0 + length ins) outs scans parts.1 in
-    let in-many : 0 + length ins ≡ sum_by input_count items = omega (arith, inputs-counted inputs items) in
-    let out-many : 0 + length ins + length outs ≡ sum_by input_count items + sum_by output_count items =
-    omega (arith, in-many, outputs-counted inputs [] items) in
-    jobs-given areas back loads gives operand inputs items [] [] (first items) tt accepted parts.0
-    (subst (λ n. AreAt areas n outs) in-many more.0) (subst (λ n. AreAt areas n scans) out-many more.1)
+    let stand = lists-stand inputs items in
+    jobs-given (area_lists inputs items) back loads gives operand inputs items [] [] (first items) tt accepted stand.0 stand.1 stand.2

@@ -6,7 +6,8 @@ use Rattle.std.proofs.Common.{refl, ap, sym, subst, ◌∙◌, arith}
 use Rattle.std.proofs.lemmas.Bool.{false≢true}
 use Rattle.std.proofs.lemmas.Grind.{flat_map-append}
 use Rattle.std.proofs.lemmas.List.{length-append}
-use Rattle.shapes_core.specs.Shape.{IsShape, greatest_extent, total}
+use Rattle.shapes_core.specs.Limits.{greatest_extent}
+use Rattle.shapes_core.specs.Shape.{IsShape, total}
 use Rattle.moa_tree.specs.declared.operator.Op.{Op}
 use Rattle.moa_tree.specs.declared.operator.Op.TheVariants.{Add, Sub, Mul, Quot, Rem, Min, Max, Eq, Ne, Lt, Le, And, Or, Xor}
 use Rattle.moa_tree.specs.declared.operator.Unary.{Unary}

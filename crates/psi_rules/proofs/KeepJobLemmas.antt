@@ -7,11 +7,12 @@ use Rattle.std.proofs.Common.{refl, ap, sym, subst, arith, le_refl}
 use Rattle.std.proofs.lemmas.List.{reverse-reverse}
 use Rattle.std.proofs.lemmas.List.Sums.{sum_by-cons}
 use Rattle.std.proofs.lemmas.Option.{none-some}
+use Rattle.shapes_core.specs.Limits.{greatest_size}
 use Rattle.shapes_core.specs.Shape.{IsShape}
 use Rattle.moa_tree.specs.Axes.{naturals}
 use Rattle.moa_tree.specs.Canonical.{IsBuiltItem, IsWritable}
 use Rattle.moa_tree.specs.declared.tree.Version.{Version}
-use Rattle.moa_tree.specs.Denotation.{Store as Lists, after, scans_of}
+use Rattle.moa_tree.specs.Denotation.{Store as Lists, env_after, scans_of}
 use Rattle.moa_tree.specs.Expr.{Expr, Item, Input, Let, Output}
 use Rattle.moa_tree.specs.Readings.{deepest}
 use Rattle.moa_tree.specs.ShapeOf.{Shapes, shape_of}
@@ -199,11 +200,11 @@ module _ (stores : Stores) (keep : (names : Names) (prices : Prices) → KeepExp
 
   pub program-kept : (inputs : Lists) (items : List Item) (names : Names) (env : Env) (prices : Prices) (next : Next) (node : ℕ)
       → env_shapes env ≡ shapes_of names → IsReached start next items → KeepAll next names prices → AreAccepted inputs env items
-      → AllByRecursion IsBuiltItem items → AreShapes (fold shapes_after (shapes_of names) items) → sum_over job_size prices items ≤ 1024
+      → AllByRecursion IsBuiltItem items → AreShapes (fold shapes_after (shapes_of names) items) → sum_over job_size prices items ≤ greatest_size
       → AreKeptForms (jobs_from next.output next.scan node items) (given_from inputs env next items) (forms_from names next items)
   program-kept inputs [] names env prices next node same reached agree accepted built well cost = tt
   program-kept inputs (item ∷ items) names env prices next node same reached agree accepted built well cost =
-      let later = after inputs env item in
+      let later = env_after inputs env item in
       let more = named names next item ∷ names in
       let known = subst (λ shapes. IsAcceptedItem shapes item) same accepted.0 in
       let cheap = jobs-cheap prices (jobs_of 0 0 0 item) (omega (arith, cost)) in

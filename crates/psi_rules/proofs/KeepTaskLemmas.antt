@@ -7,7 +7,8 @@ use Rattle.std.proofs.Math.Nat.{mul-le-mul_right}
 use Rattle.std.proofs.lemmas.Bool.{eqb-false}
 use Rattle.std.proofs.lemmas.List.FromFn.{get_or-range_with_len, length-range_with_len}
 use Rattle.std.proofs.lemmas.List.Sums.{sum_by-cons}
-use Rattle.shapes_core.specs.Shape.{greatest_extent, total}
+use Rattle.shapes_core.specs.Limits.{greatest_extent, greatest_size}
+use Rattle.shapes_core.specs.Shape.{total}
 use Rattle.moa_tree.specs.Canonical.{IsBuilt}
 use Rattle.moa_tree.specs.declared.operator.Op.{Op}
 use Rattle.moa_tree.specs.Expr.{Expr, Number, Use, Iota, One, Two, Psi, Take, Drop, Reverse, Rotate, Transpose, Permute, Cat, Reshape, Ravel, Outer, Inner, Reduce, Scan}
@@ -71,15 +72,15 @@ sum-each f (x ∷ xs) most h =
 
 -- the expression of a job has no more nodes than a program may
 abbrev pub IsCheap : Prices → TreeJob → Type 0
-IsCheap prices tree_job = nodes prices tree_job.of ≤ 1024
+IsCheap prices tree_job = nodes prices tree_job.of ≤ greatest_size
 
-pub jobs-cheap : (prices : Prices) (jobs : List TreeJob) → sum_by (job_size prices) jobs ≤ 1024 → AllByRecursion (IsCheap prices) jobs
+pub jobs-cheap : (prices : Prices) (jobs : List TreeJob) → sum_by (job_size prices) jobs ≤ greatest_size → AllByRecursion (IsCheap prices) jobs
 jobs-cheap prices jobs h =
-    each-follows (λ j. job_size prices j ≤ 1024) (IsCheap prices) (λ j cheap. omega (arith, cheap)) jobs
-    (sum-each (job_size prices) jobs 1024 h)
+    each-follows (λ j. job_size prices j ≤ greatest_size) (IsCheap prices) (λ j cheap. omega (arith, cheap)) jobs
+    (sum-each (job_size prices) jobs greatest_size h)
 
-pub cheap-room : (n : ℕ) → n ≤ 1024 → HasRoom 0 n
-cheap-room n h = let e : n * greatest_extent ≤ 1024 * greatest_extent = mul-le-mul_right greatest_extent h in omega (arith, e)
+pub cheap-room : (n : ℕ) → n ≤ greatest_size → HasRoom 0 n
+cheap-room n h = let e : n * greatest_extent ≤ greatest_size * greatest_extent = mul-le-mul_right greatest_extent h in omega (arith, e)
 
 -- a task of a job, whose form keeps it for the job's area
 abbrev pub IsTaskOf : Names → TreeJob → Task → Type 0
@@ -140,7 +141,7 @@ module _ (names : Names) (operand : OperandsMove (shapes_of names)) where
     built-operand zero fold of h = absurd h
     built-operand (suc levels) fold of h = (levels, h.1)
 
-    scan-kept : (scan : ℕ) (fold : Op) (of : Expr) → IsGood (Scan fold of) → AreKeptNamed scan names prices → nodes prices of ≤ 1024
+    scan-kept : (scan : ℕ) (fold : Op) (of : Expr) → IsGood (Scan fold of) → AreKeptNamed scan names prices → nodes prices of ≤ greatest_size
         → Keeps scan 0 (form names (suc scan) of) (shape_in names of)
     scan-kept scan fold of good agree cheap =
         let built = built-operand good.1 fold of good.2 in

@@ -1,4 +1,5 @@
 mod AreaLemmas
+mod BlockLemmas
 mod EntryLemmas
 mod FoldJobLemmas
 mod FormLemmas

@@ -6,6 +6,7 @@ use Rattle.std.proofs.Common.{refl, ap, sym, subst, ◌∙◌, arith}
 use Rattle.std.proofs.lemmas.Grind.{reverse_onto}
 use Rattle.std.proofs.lemmas.List.{map-append}
 use Rattle.std.proofs.lemmas.Option.{none-some, same_Some, slice_get-map}
+use Rattle.psi_rules.specs.Blocks.{AreAt}
 
 -- ---- the items of one list
 
@@ -100,11 +101,6 @@ mapped-at f (front ∷ xs) zero y e = (front, refl, same_Some (f front) y e)
 mapped-at f (front ∷ xs) (suc number) y e = mapped-at f xs number y e
 
 -- ---- items at their places
-
--- the items from this place on are these
-abbrev pub AreAt : {X : Type 0} → List X → ℕ → List X → Type 0
-AreAt all start [] = Unit {0}
-AreAt all start (item ∷ items) = (slice_get all start ≡ Some item) × AreAt all (suc start) items
 
 at-later : {X : Type 0} (x : X) (all : List X) (start : ℕ) (items : List X) → AreAt all start items → AreAt (x ∷ all) (suc start) items
 at-later x all start [] h = tt

@@ -21,10 +21,11 @@ use Rattle.normal_form.specs.declared.term.Bind.TheVariants.{Turn, Flat, Digit}
 use Rattle.normal_form.specs.Formers.{Former, Making, binding, by_offset, constants, digiting, flattening, folding, joining, offset, on_both, reshaping, spreading, turning, unflattening, varying}
 use Rattle.normal_form.specs.Forms.{Bin}
 use Rattle.normal_form.specs.Moves.{behind_entry, mirrored_entry, remaining_entry, taken_entry, turned_constant, variable}
+use Rattle.psi_rules.specs.Blocks.{AreAt}
 use Rattle.psi_rules.specs.Jobs.{Task, scanned}
 use Rattle.psi_rules.specs.Loads.{LoadsFrom}
 use Rattle.psi_rules.specs.Rules.{Named, Names, entry_on, form, nameless, scan_behind, shape_in}
-use Rattle.psi_rules.proofs.ListLemmas.{AreAt, at-both}
+use Rattle.psi_rules.proofs.ListLemmas.{at-both}
 use Rattle.psi_rules.proofs.TaskLemmas.{tasks-both}
 
 module _ (areas : List (List ℕ)) where

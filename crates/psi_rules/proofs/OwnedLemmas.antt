@@ -5,7 +5,7 @@ use Rattle.std.proofs.Common.{refl, ap, sym, subst, ◌∙◌, arith}
 use Rattle.std.proofs.lemmas.List.{map-append}
 use Rattle.std.proofs.lemmas.Simd.{map-map}
 use Rattle.indexmap.proofs.ReorderLemmas.{map-reverse}
-use Rattle.moa_tree.specs.Denotation.{Store as Lists, after, scans_of}
+use Rattle.moa_tree.specs.Denotation.{Store as Lists, env_after, scans_of}
 use Rattle.moa_tree.specs.Expr.{Expr, Scan, Item, Input, Let, Output}
 use Rattle.moa_tree.specs.ShapeOf.{shape_of}
 use Rattle.moa_tree.specs.Subexpressions.{subexpressions_of}
@@ -180,7 +180,7 @@ shaped-from : (inputs : Lists) (env : Env) (at : ℕ → Scope) (number : ℕ) (
 shaped-from inputs env at number [] same h = refl
 shaped-from inputs env at number (item ∷ items) same h =
     let next = (at number).next in
-    let later = after inputs env item in
+    let later = env_after inputs env item in
     let shape = λ (array : Given). array.shape in
     let known = shapes-alike inputs env (at number).names next item same ∙ ap (λ scope. shapes_of scope.names) (sym h.0) in
     map-both shape (shape_at at) (map (task_given env) (tasks_of next item)) (given_from inputs later (next_after next item) items)

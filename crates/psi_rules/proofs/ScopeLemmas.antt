@@ -3,7 +3,7 @@ use Rattle.std.specs.Prelude.{◌≡◌, ℕ, zero, suc, List, [], ◌∷◌, ta
 use Rattle.std.specs.List.{fold}
 use Rattle.std.proofs.Common.{refl, ap, sym, ◌∙◌}
 use Rattle.std.proofs.lemmas.Option.{none-some, same_Some}
-use Rattle.moa_tree.specs.Denotation.{Store as Lists, after}
+use Rattle.moa_tree.specs.Denotation.{Store as Lists, env_after}
 use Rattle.moa_tree.specs.Expr.{Item, Input, Let, Output}
 use Rattle.moa_tree.specs.Values.{Env, shapes_of as env_shapes}
 use Rattle.shape_check.specs.Layout.{shapes_after}
@@ -31,13 +31,13 @@ names-shapes names next (Let name of) = refl
 names-shapes names next (Output name of) = refl
 
 -- and so do those of the arrays
-env-shapes : (inputs : Lists) (env : Env) (item : Item) → env_shapes (after inputs env item) ≡ shapes_after (env_shapes env) item
+env-shapes : (inputs : Lists) (env : Env) (item : Item) → env_shapes (env_after inputs env item) ≡ shapes_after (env_shapes env) item
 env-shapes inputs env (Input name extents) = refl
 env-shapes inputs env (Let name of) = refl
 env-shapes inputs env (Output name of) = refl
 
 pub shapes-alike : (inputs : Lists) (env : Env) (names : Names) (next : Next) (item : Item) → env_shapes env ≡ shapes_of names
-    → env_shapes (after inputs env item) ≡ shapes_of (named names next item ∷ names)
+    → env_shapes (env_after inputs env item) ≡ shapes_of (named names next item ∷ names)
 shapes-alike inputs env names next item same =
     env-shapes inputs env item ∙ ap (λ shapes. shapes_after shapes item) same ∙ sym (names-shapes names next item)
 

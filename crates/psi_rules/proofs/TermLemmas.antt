@@ -5,6 +5,7 @@ use Rattle.std.proofs.Common.{refl, ap, sym, subst, ◌∙◌, arith, length-app
 use Rattle.std.proofs.lemmas.Result.{IfOk-weaker}
 use Rattle.std.proofs.Math.Seq.{get_or-append_seam}
 use Rattle.std.proofs.lemmas.List.{get_or_append_left}
+use Rattle.shapes_core.specs.Limits.{most_items}
 use Rattle.moa_tree.specs.Axes.{on_axis, turned}
 use Rattle.moa_tree.specs.declared.operator.Op.{Op}
 use Rattle.normal_form.specs.declared.entry.Entry.{Entry}
@@ -57,7 +58,7 @@ ordered-after number (first ∷ others) term ordered below = (
 )
 
 -- a pool stays one
-pub pool-grown : (terms : List Term) (term : Term) → IsPool terms → length terms < 2 ^ 30
+pub pool-grown : (terms : List Term) (term : Term) → IsPool terms → length terms < most_items
     → AllByRecursion (λ operand. operand < length terms) (operands term) → IsPool (terms ++ term ∷ [])
 pool-grown terms term pool room below = record {
   ordered = ordered-after 0 terms term pool.ordered (subst (λ n. AllByRecursion (λ operand. operand < n) (operands term)) (omega arith) below);

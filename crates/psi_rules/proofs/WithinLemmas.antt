@@ -5,7 +5,8 @@ use Rattle.std.proofs.Common.{sym, subst, arith, le_refl, le_trans}
 use Rattle.std.proofs.lemmas.Bool.{and_parts, eqb-true, false≢true, le-leb, leb-true, ltb-true}
 use Rattle.std.proofs.lemmas.Int.{ints}
 use Rattle.std.proofs.lemmas.Slice.Eq.{bytes_eq-Decides}
-use Rattle.shapes_core.specs.Shape.{IsShape, are_small, greatest_extent, most_axes, span}
+use Rattle.shapes_core.specs.Limits.{greatest_extent, most_axes}
+use Rattle.shapes_core.specs.Shape.{IsShape, are_small, span}
 use Rattle.moa_tree.specs.Axes.{each_extent, each_place, on_axis, remaining, taken}
 use Rattle.shape_check.specs.Rules.{are_equal, each_entry, is_part, is_place, is_scalar}
 use Rattle.normal_form.specs.declared.entry.Entry.{Entry}

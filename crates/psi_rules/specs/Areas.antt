@@ -1,7 +1,7 @@
 -- What the areas of a program's block hold when its jobs have been done, and the values that its jobs give. This project's own.
 use Rattle.std.specs.Prelude.{ℕ, ℤ, pos, List, [], ◌∷◌, ◌++◌, map, slice_index_or}
 use Rattle.std.specs.List.{flat_map}
-use Rattle.moa_tree.specs.Denotation.{Store as Lists, after, denote_from, denote_scans_from}
+use Rattle.moa_tree.specs.Denotation.{Store as Lists, env_after, denote_from, denote_scans_from}
 use Rattle.moa_tree.specs.Expr.{Item, Input, Let, Output}
 use Rattle.moa_tree.specs.ShapeOf.{beside}
 use Rattle.moa_tree.specs.Values.{Env, shape_in, value}
@@ -34,7 +34,7 @@ task_given env task = record { shape = shape_in env task.0; at = value env task.
 abbrev pub given_from : Lists → Env → Next → List Item → List Given
 given_from inputs env next [] = []
 given_from inputs env next (item ∷ items) =
-    map (task_given env) (tasks_of next item) ++ given_from inputs (after inputs env item) (next_after next item) items
+    map (task_given env) (tasks_of next item) ++ given_from inputs (env_after inputs env item) (next_after next item) items
 
 abbrev pub given : Lists → List Item → List Given
 given inputs items = given_from inputs [] (first items) items

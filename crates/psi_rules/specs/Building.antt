@@ -1,6 +1,7 @@
 -- What is built in a pool of terms. This project's own.
 use mathlib.Core.List.{reverse_aux}
 use Rattle.std.specs.Prelude.{◌≡◌, ℕ, suc, ◌+◌, ◌-◌, ◌<◌, ◌≤◌, ◌^◌, ℤ, pos, List, [], ◌∷◌, ◌++◌, drop, length, slice_index, take}
+use Rattle.shapes_core.specs.Limits.{most_items}
 use Rattle.moa_tree.specs.Axes.{on_axis, turned}
 use Rattle.moa_tree.specs.declared.operator.Op.{Op}
 use Rattle.normal_form.specs.declared.entry.Entry.{Entry}
@@ -27,7 +28,7 @@ pub record Built : Type 0 where
 -- operands stand before their terms, and the terms are few
 pub record IsPool (terms : List Term) : Type 0 where
   pub ordered : AreOrdered 0 terms
-  pub few : length terms ≤ 2 ^ 30
+  pub few : length terms ≤ most_items
 
 -- the term of this number is there, and is this form
 pub record Stands (terms : List Term) (number : ℕ) (form : Normal) : Type 0 where

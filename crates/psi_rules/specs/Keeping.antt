@@ -3,7 +3,7 @@ use Rattle.std.specs.Prelude.{◌≡◌, ◌≢◌, ℕ, ◌+◌, ◌*◌, ◌<�
 use Rattle.std.specs.List.{AllZip}
 use Rattle.std.specs.declared.option.Option.{Option}
 use Rattle.std.specs.declared.option.Option.TheVariants.{None, Some}
-use Rattle.shapes_core.specs.Shape.{greatest_extent}
+use Rattle.shapes_core.specs.Limits.{greatest_extent}
 use Rattle.moa_tree.specs.Canonical.{IsBuilt}
 use Rattle.moa_tree.specs.Expr.{Expr}
 use Rattle.moa_tree.specs.Subexpressions.{scans_in}

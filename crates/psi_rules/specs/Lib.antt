@@ -1,5 +1,6 @@
 pub mod Agrees
 pub mod Areas
+pub mod Blocks
 pub mod Building
 pub mod Jobs
 pub mod Keeping

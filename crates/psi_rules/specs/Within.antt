@@ -2,7 +2,8 @@
 -- This project's own.
 use Rattle.std.specs.Prelude.{◌≡◌, ℕ, ◌+◌, ◌-◌, ◌<◌, ℤ, pos, List, [], ◌∷◌, ◌++◌, drop, length, map, reverse, slice_index, slice_index_or, take}
 use Rattle.std.specs.List.{insert, remove}
-use Rattle.shapes_core.specs.Shape.{IsShape, greatest_extent}
+use Rattle.shapes_core.specs.Limits.{greatest_extent}
+use Rattle.shapes_core.specs.Shape.{IsShape}
 use Rattle.moa_tree.specs.declared.operator.Op.{Op}
 use Rattle.moa_tree.specs.Axes.{but_last, common, each_extent, each_place, naturals, on_axis, own_index, remaining, restored, selected, taken}
 use Rattle.moa_tree.specs.Expr.{Expr, Two, Psi, Take, Drop, Reverse, Transpose, Permute, Cat, Outer, Inner, Reduce}

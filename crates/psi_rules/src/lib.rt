@@ -4,6 +4,7 @@
 #![tactic(auto)]
 
 mod arms;
+pub mod block_laws;
 mod digits;
 pub mod keeping_laws;
 pub mod laws;
@@ -19,7 +20,7 @@ mod shapes;
 mod sides;
 mod statements;
 mod tables;
-mod task_laws;
+pub mod task_laws;
 mod terms;
 mod turns;
 

@@ -7,10 +7,7 @@ ghost use Rattle.normal_form.specs.Moves.{behind_entry, minus_entry, mirrored_en
 ghost use Rattle.psi_rules.specs.Rules.{entry_on};
 
 use normal_form::{Entries, Entry};
-use shapes_core::{NoMemory, Shape};
-
-/// The greatest number of entries.
-const MOST_ENTRIES: usize = 6;
+use shapes_core::{MOST_AXES, NoMemory, Shape};
 
 /// The entries of a list, which are no more than an index has.
 pub(crate) fn listed(list: &[Entry]) -> Result<Entries, NoMemory>
@@ -56,7 +53,7 @@ pub(crate) fn mirrored(entries: &Entries) -> Result<Entries, NoMemory>
     ensures { IfOk result (λ mirrored. mirrored ≡ reverse entries.now) }
 {
     let list = entries.list();
-    let mut buffer = [Entry::At(0); MOST_ENTRIES];
+    let mut buffer = [Entry::At(0); MOST_AXES];
     let reversed = &mut buffer[..list.len()];
     reversed.copy_from_slice(list);
     reversed.reverse();
@@ -133,10 +130,10 @@ pub(crate) fn in_front(entry: Entry, entries: &Entries) -> Result<Entries, NoMem
     ensures { IfOk result (λ all. all ≡ entry ∷ entries.now) }
 {
     let list = entries.list();
-    if list.len() == MOST_ENTRIES {
+    if list.len() == MOST_AXES {
         return Err(NoMemory);
     }
-    let mut buffer = [entry; MOST_ENTRIES];
+    let mut buffer = [entry; MOST_AXES];
     buffer[1..=list.len()].copy_from_slice(list);
     listed(&buffer[..=list.len()])
 }

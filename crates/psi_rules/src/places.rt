@@ -4,11 +4,11 @@ ghost use Rattle.moa_tree.specs.Expr.{Expr};
 ghost use Rattle.moa_tree.specs.Pool.{expr_of, operands};
 ghost use Rattle.moa_tree.specs.Subexpressions.{scans_in};
 ghost use Rattle.shape_check.specs.Judged.{node_tree};
-ghost use Rattle.psi_rules.specs.Places.{parts_of, scans_of};
+ghost use Rattle.psi_rules.specs.Places.{scans_under};
 ghost use Rattle.psi_rules.specs.Rules.{scan_behind};
 
 use crate::nodes::node_of;
-use moa_tree::Node;
+use moa_tree::{Node, Operands};
 use shape_check::Checked;
 use shapes_core::NoMemory;
 
@@ -19,39 +19,14 @@ pub(crate) struct Place {
     pub(crate) scan: u32,
 }
 
-/// Where the scans of a node are: nowhere, under one node or two, or at it and under one node.
-#[derive(Clone, Copy)]
-pub(crate) enum Scanned {
-    Nowhere,
-    Under(u32),
-    Here(u32),
-    Both(u32, u32),
-}
-
-/// Where the scans of a node are.
-fn parts_scanned(node: &Node) -> Scanned
-    ensures parts { parts_of result ≡ operands node.now }
-    ensures count { (pool : List ℤ) (trees : List Expr)
-        → length (scans_in (expr_of pool trees node.now)) ≡ scans_of trees result }
+/// How many of the scans in the expression of a node are the node itself.
+fn own_scans(node: &Node) -> u32
+    ensures { (pool : List ℤ) (trees : List Expr)
+        → length (scans_in (expr_of pool trees node.now)) ≡ result + scans_under trees (operands node.now) }
 {
     match node {
-        Node::Number(_) | Node::Use(_) | Node::Iota(_) => Scanned::Nowhere,
-        Node::One { of, .. }
-        | Node::Psi { of, .. }
-        | Node::Take { of, .. }
-        | Node::Drop { of, .. }
-        | Node::Reverse { of }
-        | Node::Rotate { of, .. }
-        | Node::Transpose { of }
-        | Node::Permute { of, .. }
-        | Node::Reshape { of, .. }
-        | Node::Ravel { of }
-        | Node::Reduce { of, .. } => Scanned::Under(*of),
-        Node::Scan { of, .. } => Scanned::Here(*of),
-        Node::Two { left, right, .. }
-        | Node::Cat { left, right }
-        | Node::Outer { left, right, .. }
-        | Node::Inner { left, right, .. } => Scanned::Both(*left, *right),
+        Node::Scan { .. } => 1,
+        _ => 0,
     }
 }
 
@@ -71,12 +46,14 @@ pub(crate) fn scans_at(checked: &Checked, number: u32) -> Result<u32, NoMemory>
     ensures { IfOk result (λ count. count ≡ length (scans_in (node_tree checked.now.pools number))) }
 {
     let node = node_of(checked, number);
-    let parts = parts_scanned(&node);
-    match parts {
-        Scanned::Nowhere => Ok(0),
-        Scanned::Under(of) => scans_at(checked, of),
-        Scanned::Here(of) => sum(1, scans_at(checked, of)?),
-        Scanned::Both(left, right) => sum(scans_at(checked, left)?, scans_at(checked, right)?),
+    let own = own_scans(&node);
+    match node.operands() {
+        Operands::None => Ok(own),
+        Operands::One(of) => sum(own, scans_at(checked, of)?),
+        Operands::Two(left, right) => {
+            let first = sum(own, scans_at(checked, left)?)?;
+            sum(first, scans_at(checked, right)?)
+        }
     }
 }
 

@@ -11,12 +11,9 @@ ghost use Rattle.psi_rules.specs.Rules.{loading};
 use crate::moves::signed;
 use moa_tree::{Op, Unary};
 use normal_form::{Bind, Entries, Entry, Term};
-use shapes_core::{NoMemory, Shape};
+use shapes_core::{MOST_ITEMS, NoMemory, Shape};
 use std::alloc::Global;
 use std::marker::Model;
-
-/// The greatest number of terms.
-const MOST_TERMS: usize = 1073741824;
 
 /// The terms of a form in the making, and the number of the next variable.
 #[derive(Drop)]
@@ -78,7 +75,7 @@ impl Pool {
         ensures adds { (form : Normal) → form_of (forms self.old.terms) term ≡ form → IfOk result (Adds form self.old self.new) }
         ensures there { IfOk result (IsThere self.old self.new) }
     {
-        if self.terms.len() >= MOST_TERMS {
+        if self.terms.len() >= MOST_ITEMS {
             return Err(NoMemory);
         }
         let number = self.terms.len() as u32;

@@ -3,10 +3,7 @@ ghost use Rattle.std.specs.Prelude.{◌≡◌, ◌<◌, ◌-◌, ◌∷◌, [], 
 ghost use Rattle.shapes_core.specs.Shape.{span, total};
 ghost use Rattle.moa_tree.specs.Axes.{naturals};
 
-use shapes_core::{NoMemory, Shape, total, weight};
-
-/// The greatest number of axes.
-const MOST_AXES: usize = 6;
+use shapes_core::{MOST_AXES, NoMemory, Shape, total, weight};
 
 /// The shape with these extents.
 pub(crate) fn shaped(extents: &[u64]) -> Result<Shape, NoMemory>

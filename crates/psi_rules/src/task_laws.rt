@@ -9,7 +9,7 @@ ghost use Rattle.psi_rules.specs.Scopes.{Owned, first_scan, job_shapes, names_at
 
 /// The forms, the expressions, the areas of scans and the shapes of a program's jobs are those of
 /// its tasks, each among the names and the areas before its statement.
-pub(crate) fn jobs_are_tasks()
+pub fn jobs_are_tasks()
     ensures there { (items : List Item) (number : ℕ) (o : Owned) → slice_get (owned items) number ≡ Some o
         → o.statement < length items }
     ensures forms { (items : List Item)

@@ -1,3 +1,4 @@
+-- What is put of an answer, and what follows of it and of what was due.
 use Rattle.std.proofs.Common.{◌≡◌, ℕ, ◌⊎◌, inl, inr, List, [], Option, Some, None, append-nil, refl, sym, ap, subst, ◌∙◌, arith}
 use Rattle.std.specs.Prelude.{◌≢◌, Contains, IsSomeAnd, Result, Ok, Err, Vec}
 use Rattle.std.specs.FinMap.{get}

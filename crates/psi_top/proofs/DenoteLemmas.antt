@@ -2,6 +2,7 @@
 use Rattle.std.proofs.Common.{◌≡◌, ℕ, ◌^◌, ◌≤◌, inl, inr, List, length, Option, Some, None, refl, sym, ap, subst, ◌∙◌, arith}
 use Rattle.std.specs.Prelude.{◌≢◌, ℤ, IsSomeAnd}
 use Rattle.std.specs.FinMap.{get}
+use Rattle.shapes_core.specs.Limits.{most_items, most_words}
 use Rattle.moa_tree.specs.Expr.{Tree}
 use Rattle.shape_check.specs.Layout.{areas}
 use Rattle.psi_edges.specs.Files.{Files, OnFile, TellsFile}
@@ -31,14 +32,14 @@ use Rattle.psi_top.proofs.RunLemmas.{run_cases}
 -- what a source is compiled to runs as the source denotes
 pub faithful : ((text : List ℕ) (parts : Parts) → Spells text parts → refusal text ≡ None)
     → ((text : List ℕ) → refusal text ≡ None → Spells text (parts_of text))
-    → ((text bytes : List ℕ) (areas : List Area) (demand : List (List ℤ) → List (List ℤ)) (program : Parts) (arrays : List (List ℤ)) → IsGood text areas demand → Spells text program → length program.lines ≤ 2 ^ 30 → block_words program.header program.areas ≤ 134217728 → file.outcome_of (inputs program.areas) bytes ≡ file.Outcome.Accepted arrays → ran program bytes ≡ Ran.Prints (printed_all (outputs program.areas) (demand arrays)))
+    → ((text bytes : List ℕ) (areas : List Area) (demand : List (List ℤ) → List (List ℤ)) (program : Parts) (arrays : List (List ℤ)) → IsGood text areas demand → Spells text program → length program.lines ≤ most_items → block_words program.header program.areas ≤ most_words → file.outcome_of (inputs program.areas) bytes ≡ file.Outcome.Accepted arrays → ran program bytes ≡ Ran.Prints (printed_all (outputs program.areas) (demand arrays)))
     → (tree : Tree) (text : List ℕ) → IsCompiled tree text → IsFaithful tree text
 faithful read spelled good tree text compiled =
     let is : refusal text ≡ None = read text compiled.good.program compiled.good.spelled in
     let spells : Spells text (parts_of text) = spelled text is in
     let one : parts_of text ≡ compiled.good.program = compiled.good.only (parts_of text) spells in
     let layout : (parts_of text).areas ≡ areas tree.statements = ap (λ (p : Parts). p.areas) one ∙ compiled.good.layout in
-    let few : length (parts_of text).lines ≤ 2 ^ 30 = omega (arith, ap (λ (p : Parts). length p.lines) one, compiled.bounded.lines) in
+    let few : length (parts_of text).lines ≤ most_items = omega (arith, ap (λ (p : Parts). length p.lines) one, compiled.bounded.lines) in
     record {
       unrefused = is;
       layout = layout;

@@ -6,6 +6,9 @@ use Rattle.std.proofs.lemmas.List.Elements.{All-cons, All-nil}
 use Rattle.std.specs.Cmp.{eq_by_cmp_equiv}
 use Rattle.std.specs.Cmp.Lexicographic.{nat_list_cmp_total}
 use Rattle.std.specs.FinMap.{empty, get, get-insert, insert}
+use Rattle.array_text.specs.Limits.{longest_arrays}
+use Rattle.moa_reader.specs.Limits.{longest_source}
+use Rattle.rv_reader.specs.Limits.{longest_assembly}
 use Rattle.psi_edges.specs.Causes.{Rose, raised}
 use Rattle.psi_edges.specs.Files.{Files, OnFile}
 use Rattle.rv_line.specs.Parts.{Parts}
@@ -15,7 +18,7 @@ use Rattle.psi_top.specs.Answer.{IsAnswer, IsRead, IsTextDue, IsUnread, outcome_
 use Rattle.psi_top.specs.Answer.IsUnread.{failed, longer, starved}
 use Rattle.psi_top.specs.Command.{Asks, IsCommand, IsMisuse, IsRun}
 use Rattle.psi_top.specs.Line.{usage_line}
-use Rattle.psi_top.specs.Outcome.{AreFiles, IsDue, IsOutcome, IsRunnable, IsSourceOutcome, Outcome, Reached, after, longest, longest_arrays, longest_assembly, over_arrays, over_text, ran_outcome, run_outcome}
+use Rattle.psi_top.specs.Outcome.{AreFiles, IsDue, IsOutcome, IsRunnable, IsSourceOutcome, Outcome, Reached, after_reading, over_arrays, over_text, ran_outcome, run_outcome}
 use Rattle.psi_top.specs.Outcome.IsOutcome.{found, runs}
 use Rattle.psi_top.specs.Outcome.IsSourceOutcome.{too_long}
 use Rattle.psi_top.specs.Outcome.Outcome.{Refuses}
@@ -74,16 +77,16 @@ due_usage words shelf misuse = let some = some_files shelf.files in IsDue.over_f
 -- Of a source.
 module _ (words : List (List ℕ)) (old new : ShelfView) (task : Task) (name : List ℕ) (command : IsCommand words task name) where
   -- the file was not read
-  pub due_unread_source : (outcome : Outcome) → IsUnread old new name 1 longest outcome → IsDue words old new outcome
+  pub due_unread_source : (outcome : Outcome) → IsUnread old new name 1 longest_source outcome → IsDue words old new outcome
   due_unread_source outcome (failed rose named) = IsDue.cannot_read ([]) ([]) (Asks.source command) (All-nil _) rose named
   due_unread_source outcome (longer on given faults) =
-      let long = long_file longest in
-      let file = file_at old.files name long.0 (λ file. longest < length file) long.1 on in
+      let long = long_file longest_source in
+      let file = file_at old.files name long.0 (λ file. longest_source < length file) long.1 on in
       IsDue.over_files file.1 file.1 (found command file.3 (too_long file.4)) (inl given) faults
   due_unread_source outcome starved = IsDue.no_memory (Asks.source command)
 
   -- the file was read, and came to this outcome
-  pub due_source : (bytes : List ℕ) → IsRead old new name longest bytes → (outcome : Outcome) → IsSourceOutcome task name bytes outcome (length bytes) → IsDue words old new outcome
+  pub due_source : (bytes : List ℕ) → IsRead old new name longest_source bytes → (outcome : Outcome) → IsSourceOutcome task name bytes outcome (length bytes) → IsDue words old new outcome
   due_source bytes read outcome is =
       let file = file_at old.files name bytes (λ file. bytes ≡ file) refl read.whole in
       IsDue.over_files file.1 file.1 (found command file.3 (subst (λ source. IsSourceOutcome task name source outcome (length bytes)) file.4 is)) (inl read.given) read.faults
@@ -114,7 +117,7 @@ module _ (words : List (List ℕ)) (assembly arrays : List ℕ) (asked : IsRun w
       let file = file_at old.files assembly text (λ file. text ≡ file) refl read.whole in
       let there = file.3 ∙ ap Some (sym file.4) in
       let rest = over_arrays file.0 assembly arrays in
-      let reaches = over_short file.0 assembly 8 longest_assembly (over_text assembly rest) text there read.short ∙ ap (after (length text)) (refused rest) in
+      let reaches = over_short file.0 assembly 8 longest_assembly (over_text assembly rest) text there read.short ∙ ap (after_reading (length text)) (refused rest) in
       IsDue.over_files file.1 file.1 (reached words file.0 file.0 assembly arrays outcome (length text + 0) asked reaches) (inl (given_both _ _ _ (length text) 0 read.given (omega arith))) read.faults
 
   pub due_refusal : (old new : ShelfView) (text : List ℕ) (refusal : Refusal) → IsRead old new assembly longest_assembly text → (refusal ≢ Memory → (rest : Parts → Reached) → over_text assembly rest text ≡ (outcome_of refusal, 0)) → IsDue words old new (outcome_of refusal)
@@ -137,7 +140,7 @@ module _ (words : List (List ℕ)) (assembly arrays : List ℕ) (asked : IsRun w
         let second = file_at old.files arrays long.0 (λ file. longest_arrays < length file) long.1 (subst (λ told. OnFile told arrays (λ file. longest_arrays < length file)) read.files on) in
         let rest = over_arrays second.0 assembly arrays in
         let reaches = over_short file.0 assembly 8 longest_assembly (over_text assembly rest) text there read.short
-        ∙ ap (after (length text)) (over_spelled assembly rest text runnable ∙ over_long second.0 arrays 9 longest_arrays (λ bytes. (ran_outcome assembly arrays (ran (parts_of text) bytes), 0)) second.2 second.3 second.4) in
+        ∙ ap (after_reading (length text)) (over_spelled assembly rest text runnable ∙ over_long second.0 arrays 9 longest_arrays (λ bytes. (ran_outcome assembly arrays (ran (parts_of text) bytes), 0)) second.2 second.3 second.4) in
         IsDue.over_files file.1 second.1 (reached words file.0 second.0 assembly arrays _ _ asked reaches) (inl (given_both _ _ _ (length text) (longest_arrays + 1) read.given given)) (faults ∙ read.faults)
     due_unread_arrays outcome starved = IsDue.no_memory (Asks.run asked)
 
@@ -150,7 +153,7 @@ module _ (words : List (List ℕ)) (assembly arrays : List ℕ) (asked : IsRun w
         let behind = second.3 ∙ ap Some (sym second.4) in
         let rest = over_arrays second.0 assembly arrays in
         let reaches = over_short file.0 assembly 8 longest_assembly (over_text assembly rest) text there read.short
-        ∙ ap (after (length text)) (over_spelled assembly rest text runnable ∙ over_short second.0 arrays 9 longest_arrays (λ bytes. (ran_outcome assembly arrays (ran (parts_of text) bytes), 0)) bytes behind again.short)
+        ∙ ap (after_reading (length text)) (over_spelled assembly rest text runnable ∙ over_short second.0 arrays 9 longest_arrays (λ bytes. (ran_outcome assembly arrays (ran (parts_of text) bytes), 0)) bytes behind again.short)
         ∙ ap (λ (r : Ran). (ran_outcome assembly arrays r, length text + (length bytes + 0))) is in
         let given : new.given ≡ raised between.given (length bytes + 0) = omega (arith, again.given) in
         IsDue.over_files file.1 second.1 (reached words file.0 second.0 assembly arrays _ _ asked reaches) (inl (given_both _ _ _ (length text) (length bytes + 0) read.given given)) (again.faults ∙ read.faults)

@@ -1,8 +1,8 @@
 pub mod AnswerLemmas
 pub mod DenoteLemmas
 pub mod DueLemmas
+pub mod MessageLemmas
 pub mod OutcomeLemmas
-pub mod PairLemmas
 pub mod ReportLemmas
 pub mod RunLemmas
 pub mod ShownLemmas

@@ -5,6 +5,7 @@ use Rattle.std.specs.List.{AllByRecursion, prefix_len}
 use Rattle.std.proofs.lemmas.Bool.Decides.{nat_tests}
 use Rattle.std.specs.FinMap.{get}
 use Rattle.std.specs.Str.{bytes_eq}
+use Rattle.moa_reader.specs.Limits.{longest_source}
 use Rattle.text_tokens.specs.declared.token.Position.{Position}
 use Rattle.moa_tree.specs.Expr.{Expr, Tree}
 use Rattle.moa_tree.specs.Positions.{expression_positions}
@@ -181,7 +182,7 @@ said name (error.Limit at which value) = Refuses 6 (exceeded_line name at which 
 said name (error.NotBuilt at) = Refuses 11 (not_built_line name at)
 said name error.Memory = Refuses 10 no_memory_line
 
-module _ (task : Task) (name source : List ℕ) (short : length source ≤ 1048576) where
+module _ (task : Task) (name source : List ℕ) (short : length source ≤ longest_source) where
   failure_said : (tree : Tree) (failure : Failure) → Reads source tree → (makes_nests task ≡ true → ArePlain tree.statements) → verdict_of tree.statements ≡ Err failure → IsSourceOutcome task name source (said name (failed_at source failure)) (length source)
   failure_said tree (Failure.Rule place rule) read plain e = fails short read plain e
   failure_said tree (Failure.Limit place which value) read plain e = fails short read plain e

@@ -3,24 +3,26 @@ use Rattle.std.proofs.Common.{◌≡◌, ℕ, ◌+◌, ◌<◌, ◌≤◌, List,
 use Rattle.std.proofs.lemmas.Bool.{le-leb, leb-true, lt-leb}
 use Rattle.std.specs.FinMap.{get}
 use Rattle.std.specs.Prelude.{Contains, nat_le, if◌then◌else◌}
+use Rattle.array_text.specs.Limits.{longest_arrays}
+use Rattle.rv_reader.specs.Limits.{longest_assembly}
 use Rattle.psi_edges.specs.Files.{Files}
 use Rattle.rv_line.specs.Parts.{Parts}
 use Rattle.rv_reader.specs.Refusals.{Refusal, parts_of, refusal}
 use Rattle.array_run.specs.Ran.{Ran, ran}
 use Rattle.psi_top.specs.Line.{assembly_line, block_line, cannot_read_line, greatest_block, longer_line}
-use Rattle.psi_top.specs.Outcome.{IsRunnable, IsTextOf, Outcome, Reached, after, line_of, longest_arrays, longest_assembly, over_arrays, over_bytes, over_file, over_program, over_text, ran_outcome, run_outcome, status_of, unless_refused, words_of_block}
+use Rattle.psi_top.specs.Outcome.{IsRunnable, IsTextOf, Outcome, Reached, after_reading, line_of, over_arrays, over_bytes, over_file, over_program, over_text, ran_outcome, run_outcome, status_of, unless_refused, words_of_block}
 use Rattle.psi_top.specs.Outcome.Outcome.{Refuses}
 
 -- over a file that is as long as it may be, over a longer one, and over a text that can be run
-pub over_short : (files : Files) (name : List ℕ) (which most : ℕ) (rest : List ℕ → Reached) (bytes : List ℕ) → get files name ≡ Some bytes → length bytes ≤ most → over_file files name which most rest ≡ after (length bytes) (rest bytes)
+pub over_short : (files : Files) (name : List ℕ) (which most : ℕ) (rest : List ℕ → Reached) (bytes : List ℕ) → get files name ≡ Some bytes → length bytes ≤ most → over_file files name which most rest ≡ after_reading (length bytes) (rest bytes)
 over_short files name which most rest bytes at short =
     ap (over_bytes name which most rest) at
-    ∙ ap (λ (b : Bool). if b then after (length bytes) (rest bytes) else (Refuses 6 (longer_line name which most), most + 1)) (le-leb (length bytes) most short)
+    ∙ ap (λ (b : Bool). if b then after_reading (length bytes) (rest bytes) else (Refuses 6 (longer_line name which most), most + 1)) (le-leb (length bytes) most short)
 
 pub over_long : (files : Files) (name : List ℕ) (which most : ℕ) (rest : List ℕ → Reached) (bytes : List ℕ) → get files name ≡ Some bytes → most < length bytes → over_file files name which most rest ≡ (Refuses 6 (longer_line name which most), most + 1)
 over_long files name which most rest bytes at long =
     ap (over_bytes name which most rest) at
-    ∙ ap (λ (b : Bool). if b then after (length bytes) (rest bytes) else (Refuses 6 (longer_line name which most), most + 1)) (lt-leb (length bytes) most long)
+    ∙ ap (λ (b : Bool). if b then after_reading (length bytes) (rest bytes) else (Refuses 6 (longer_line name which most), most + 1)) (lt-leb (length bytes) most long)
 
 pub over_spelled : (name : List ℕ) (rest : Parts → Reached) (text : List ℕ) → IsRunnable text → over_text name rest text ≡ rest (parts_of text)
 over_spelled name rest text runnable =
@@ -40,7 +42,7 @@ module _ (P : Outcome → Type 0) where
   over_bytes_cases name which most rest None two six go = two
   over_bytes_cases name which most rest (Some bytes) two six go = tried (nat_le (length bytes) most) refl
     where
-      tried : (short : Bool) → nat_le (length bytes) most ≡ short → P (if short then after (length bytes) (rest bytes) else (Refuses 6 (longer_line name which most), most + 1)).0
+      tried : (short : Bool) → nat_le (length bytes) most ≡ short → P (if short then after_reading (length bytes) (rest bytes) else (Refuses 6 (longer_line name which most), most + 1)).0
       tried true is = go bytes refl (leb-true (length bytes) most is)
       tried false is = six
 

@@ -1,4 +1,4 @@
--- What the code says of outcomes.
+-- What the code says of outcomes. This project's own.
 use Rattle.std.specs.Prelude.{ℕ, ℤ, ◌+◌, ◌≡◌, ◌≢◌, ◌<◌, ◌≤◌, ◌⊎◌, List, [], length, None, MatchResult, Result, Vec}
 use Rattle.psi_edges.specs.Causes.{Rose, raised}
 use Rattle.psi_edges.specs.Files.{OnFile}

@@ -1,5 +1,6 @@
--- What words ask for.
+-- What words ask for. This project's own.
 use Rattle.std.specs.Prelude.{ℕ, ◌≡◌, ◌≤◌, List, [], ◌∷◌, ◌++◌, length, codes}
+use Rattle.psi_edges.specs.Limits.{longest_name}
 use Rattle.psi_top.specs.declared.command.Task.{Task}
 use Rattle.psi_top.specs.declared.command.Task.TheVariants.{Check, ShowSource, ShowDnf, ShowOnf, ShowNest, Compile}
 
@@ -12,16 +13,16 @@ words_of ShowOnf = codes "show" ∷ codes "onf" ∷ []
 words_of ShowNest = codes "show" ∷ codes "nest" ∷ []
 words_of Compile = codes "compile" ∷ []
 
--- the words are those of this task and the name of a file, of at most 4096 bytes
+-- the words are those of this task and the name of a file, which is not too long
 pub record IsCommand (words : List (List ℕ)) (task : Task) (name : List ℕ) : Type 0 where
   pub form : words ≡ words_of task ++ name ∷ []
-  pub short : length name ≤ 4096
+  pub short : length name ≤ longest_name
 
--- the words are `run` and the names of an assembly text and of its arrays, each of at most 4096 bytes
+-- the words are `run` and the names of an assembly text and of its arrays, neither of which is too long
 pub record IsRun (words : List (List ℕ)) (assembly arrays : List ℕ) : Type 0 where
   pub form : words ≡ codes "run" ∷ assembly ∷ arrays ∷ []
-  pub short_assembly : length assembly ≤ 4096
-  pub short_arrays : length arrays ≤ 4096
+  pub short_assembly : length assembly ≤ longest_name
+  pub short_arrays : length arrays ≤ longest_name
 
 -- the words are no command
 pub record IsMisuse (words : List (List ℕ)) : Type 0 where

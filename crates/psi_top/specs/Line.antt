@@ -1,4 +1,4 @@
--- The lines that are put to the sink of errors.
+-- The lines that are put to the sink of errors. This project's own.
 use Rattle.std.specs.Prelude.{ℕ, zero, suc, ◌-◌, List, [], ◌∷◌, ◌++◌, codes, slice_index_or, Option, None, Some}
 use Rattle.std.specs.Fmt.{decimal}
 use Rattle.text_tokens.specs.declared.token.Position.{Position}

@@ -1,4 +1,4 @@
--- Which text is made of a source.
+-- Which text is made of a source. This project's own.
 use Rattle.std.specs.Prelude.{ℕ, ◌≡◌, Bool, true, false, List, Option, IsOk, ⊤}
 use Rattle.moa_tree.specs.Canonical.{canonical}
 use Rattle.moa_tree.specs.Expr.{Tree}

@@ -1,7 +1,10 @@
--- What a call comes to.
+-- What a call comes to. This project's own.
 use Rattle.std.specs.Prelude.{ℕ, ◌+◌, ◌≡◌, ◌<◌, ◌≤◌, ◌⊎◌, nat_le, if◌then◌else◌, true, List, [], ◌∷◌, ◌++◌, All, length, Option, Some, None, Err}
 use Rattle.std.specs.Option.{option_map}
 use Rattle.std.specs.FinMap.{get}
+use Rattle.array_text.specs.Limits.{longest_arrays}
+use Rattle.moa_reader.specs.Limits.{longest_source}
+use Rattle.rv_reader.specs.Limits.{longest_assembly}
 use Rattle.text_tokens.specs.declared.token.Position.{Position}
 use Rattle.moa_tree.specs.Expr.{Tree}
 use Rattle.moa_tree.specs.Readings.{Reads}
@@ -47,19 +50,9 @@ IsTextOf (Refuses status line) text = text ≡ []
 IsTextOf (Makes task tree) text = IsTextFor task tree text
 IsTextOf (Prints printed) text = text ≡ printed
 
--- the greatest number of bytes that a source may have, an assembly text and an array file; one more is read of each
-abbrev pub longest : ℕ
-longest = 1048576
-
-abbrev pub longest_assembly : ℕ
-longest_assembly = 33554432
-
-abbrev pub longest_arrays : ℕ
-longest_arrays = 268435456
-
 -- the greatest number of bytes that a call reads
 abbrev pub most_read : ℕ
-most_read = 33554433 + 268435457
+most_read = (longest_assembly + 1) + (longest_arrays + 1)
 
 -- the status of a failure, and its line, at its position in the source
 abbrev pub failure_status : Failure → ℕ
@@ -72,24 +65,24 @@ failure_line name source (Failure.Limit place which value) = exceeded_line name 
 
 -- what a task comes to over a source, which is the file of this name, and how many bytes of it are read
 pub data IsSourceOutcome (task : Task) (name source : List ℕ) : Outcome → ℕ → Type 0 where
-  too_long : longest < length source → IsSourceOutcome task name source (Refuses 6 (longer_line name 1 longest)) (longest + 1)
-  refused : {at : Position} {cause : ℕ} → length source ≤ longest → IsRefused source at cause → IsSourceOutcome task name source (Refuses 4 (text_line name at cause)) (length source)
-  not_built : {at : Position} → length source ≤ longest → makes_nests task ≡ true → IsNotBuilt source at → IsSourceOutcome task name source (Refuses 11 (not_built_line name at)) (length source)
-  fails : {tree : Tree} {failure : Failure} → length source ≤ longest → Reads source tree → (makes_nests task ≡ true → ArePlain tree.statements) → verdict_of tree.statements ≡ Err failure → IsSourceOutcome task name source (Refuses (failure_status failure) (failure_line name source failure)) (length source)
-  made : {tree : Tree} → length source ≤ longest → Reads source tree → CanMake task tree → IsSourceOutcome task name source (Makes task tree) (length source)
+  too_long : longest_source < length source → IsSourceOutcome task name source (Refuses 6 (longer_line name 1 longest_source)) (longest_source + 1)
+  refused : {at : Position} {cause : ℕ} → length source ≤ longest_source → IsRefused source at cause → IsSourceOutcome task name source (Refuses 4 (text_line name at cause)) (length source)
+  not_built : {at : Position} → length source ≤ longest_source → makes_nests task ≡ true → IsNotBuilt source at → IsSourceOutcome task name source (Refuses 11 (not_built_line name at)) (length source)
+  fails : {tree : Tree} {failure : Failure} → length source ≤ longest_source → Reads source tree → (makes_nests task ≡ true → ArePlain tree.statements) → verdict_of tree.statements ≡ Err failure → IsSourceOutcome task name source (Refuses (failure_status failure) (failure_line name source failure)) (length source)
+  made : {tree : Tree} → length source ≤ longest_source → Reads source tree → CanMake task tree → IsSourceOutcome task name source (Makes task tree) (length source)
 
 -- what a call comes to, and how many bytes are read for it
 abbrev pub Reached : Type 0
 Reached = Outcome × ℕ
 
-abbrev pub after : ℕ → Reached → Reached
-after read reached = (reached.0, read + reached.1)
+abbrev pub after_reading : ℕ → Reached → Reached
+after_reading read reached = (reached.0, read + reached.1)
 
 -- over what a file of this name holds, if it is there: it has more bytes than this limit allows, or the rest goes on with its bytes
 abbrev pub over_bytes : List ℕ → ℕ → ℕ → (List ℕ → Reached) → Option (List ℕ) → Reached
 over_bytes name which most rest None = (Refuses 2 (cannot_read_line name), 0)
 over_bytes name which most rest (Some bytes) =
-    if nat_le (length bytes) most then after (length bytes) (rest bytes) else (Refuses 6 (longer_line name which most), most + 1)
+    if nat_le (length bytes) most then after_reading (length bytes) (rest bytes) else (Refuses 6 (longer_line name which most), most + 1)
 
 abbrev pub over_file : Files → List ℕ → ℕ → ℕ → (List ℕ → Reached) → Reached
 over_file files name which most rest = over_bytes name which most rest (get files name)

@@ -1,4 +1,4 @@
--- What a call puts.
+-- What a call puts. This project's own.
 use Rattle.std.specs.Prelude.{ℕ, ◌≡◌, ◌⊎◌, List, []}
 use Rattle.psi_edges.specs.Causes.{Rose}
 use Rattle.psi_edges.specs.Held.{Appends, AppendsFront}

@@ -1,4 +1,4 @@
--- What a caller sees of the outside.
+-- What a caller sees of the outside. This project's own.
 use Rattle.std.specs.Prelude.{ℕ, List, Option}
 use Rattle.psi_edges.specs.Files.{Files}
 use Rattle.psi_edges.specs.declared.shelf.Shelf as shelves

@@ -1,11 +1,11 @@
 // What the words ask for.
 ghost use Rattle.std.specs.Prelude.{◌≡◌, ◌≢◌, ◌↔◌, ◌<◌, ◌≤◌, ◌∷◌, ℕ, List, [], codes, length, map, IsTrue, MatchOption, string_bytes};
+ghost use Rattle.psi_edges.specs.Limits.{longest_name};
 ghost use Rattle.psi_top.specs.Answer.{IsAsked};
 ghost use Rattle.psi_top.specs.Command.{IsCommand, IsMisuse, IsRun, words_of};
 ghost use Rattle.psi_top.specs.declared.command.Task.{Task as AnyTask};
 
-/// The greatest number of bytes in the name of a file.
-const LONGEST_NAME: usize = 4096;
+use psi_edges::LONGEST_NAME;
 
 /// What is made of a source.
 #[derive(Clone, Copy)]
@@ -88,8 +88,8 @@ fn is_run(word: &str) -> bool
 
 /// The name of a file, where it is not too long.
 fn short(name: &String) -> Option<&str>
-    ensures { MatchOption result (4096 < length (string_bytes name.now))
-        (λ short. (short.now ≡ string_bytes name.now) × (length short.now ≤ 4096)) }
+    ensures { MatchOption result (longest_name < length (string_bytes name.now))
+        (λ short. (short.now ≡ string_bytes name.now) × (length short.now ≤ longest_name)) }
 {
     if name.len() > LONGEST_NAME {
         return None;

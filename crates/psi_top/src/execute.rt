@@ -1,5 +1,8 @@
 // The run of an assembly text on an array file.
 ghost use Rattle.std.specs.Prelude.{◌≡◌, ◌≢◌, ℕ, ◌+◌, ◌≤◌, List, length, IfErr, IfOk, MatchResult};
+ghost use Rattle.array_text.specs.Limits.{longest_arrays};
+ghost use Rattle.psi_edges.specs.Limits.{longest_name};
+ghost use Rattle.rv_reader.specs.Limits.{longest_assembly};
 ghost use Rattle.rv_line.specs.Parts.{Parts};
 ghost use Rattle.rv_reader.specs.Refusals.{parts_of};
 ghost use Rattle.array_run.specs.Ran.{Prints, ran};
@@ -12,23 +15,18 @@ ghost use Rattle.psi_top.specs.declared.refusal.Refusal.TheVariants.{Memory};
 
 use crate::fetch::fetch;
 use crate::refusal::Refusal;
-use crate::run_failure::{MOST_WORDS, RunFailure};
+use crate::run_failure::{GREATEST_BLOCK, RunFailure};
 use array_run::{RunError, run_on_arrays};
+use array_text::LONGEST_ARRAYS;
 use psi_edges::Shelf;
 use rv_line::Assembly;
 use rv_reader::laws::{each_text_spells_or_is_refused, spelled_texts_are_not_refused};
-use rv_reader::{AsmError, read_asm};
+use rv_reader::{AsmError, LONGEST_ASSEMBLY, read_asm};
 use std::alloc::Global;
-
-/// The greatest number of bytes in an assembly text.
-const LONGEST_ASSEMBLY: u64 = 33554432;
-
-/// The greatest number of bytes in an array file.
-const LONGEST_ARRAYS: u64 = 268435456;
 
 /// The program that an assembly text spells, where its block may have the words.
 fn program_of<'a>(alloc: Global, name: &'a str, text: &[u8]) -> Result<Assembly, Refusal<'a>>
-    requires { length text.now ≤ 33554432 }
+    requires { length text.now ≤ longest_assembly }
     ensures runnable { IfOk result (λ program. IsRunnable text.now) }
     ensures parts { IfOk result (λ program. program ≡ parts_of text.now) }
     ensures refused { IfErr result (λ refusal. refusal ≢ Memory → (rest : Parts → Reached)
@@ -39,7 +37,7 @@ fn program_of<'a>(alloc: Global, name: &'a str, text: &[u8]) -> Result<Assembly,
     match read_asm(alloc, text) {
         Ok(program) => {
             let words = program.block_words();
-            if words > MOST_WORDS {
+            if words > GREATEST_BLOCK {
                 let failure = RunFailure::Block { words };
                 return Err(Refusal::Run { name, failure });
             }
@@ -62,7 +60,7 @@ fn printed<'a>(
     file: &[u8],
 ) -> Result<Vec<u8>, Refusal<'a>>
     requires room { words_of_block program.now ≤ greatest_block }
-    requires short { length file.now ≤ 268435456 }
+    requires short { length file.now ≤ longest_arrays }
     ensures prints { IfOk result (λ text. ran program.now file.now ≡ Prints text.items) }
     ensures refused { IfErr result (λ refusal. refusal ≢ Memory
         → ran_outcome assembly.now arrays.now (ran program.now file.now) ≡ outcome_of refusal) }
@@ -86,8 +84,8 @@ pub(crate) fn run_of<'a, F: Shelf>(
     arrays: &'a str,
     shelf: &mut F,
 ) -> Result<Vec<u8>, Refusal<'a>>
-    requires short_assembly { length assembly.now ≤ 4096 }
-    requires short_arrays { length arrays.now ≤ 4096 }
+    requires short_assembly { length assembly.now ≤ longest_name }
+    requires short_arrays { length arrays.now ≤ longest_name }
     ensures due { (words : List (List ℕ)) → IsRun words assembly.now arrays.now
         → IsAnswer words (shelf_view F.Shelf shelf.old) (shelf_view F.Shelf shelf.new) result }
     ensures unchanged { F.files shelf.new ≡ F.files shelf.old }

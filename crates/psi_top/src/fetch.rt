@@ -1,5 +1,6 @@
 // A whole file of a shelf, for a command.
 ghost use Rattle.std.specs.Prelude.{◌≡◌, ◌+◌, ◌^◌, ◌<◌, ◌≤◌, length, IfErr, IfOk};
+ghost use Rattle.psi_edges.specs.Limits.{longest_name};
 ghost use Rattle.psi_top.specs.Answer.{IsRead, IsUnread, outcome_of};
 ghost use Rattle.psi_top.specs.Views.{shelf_view};
 
@@ -15,7 +16,7 @@ pub(crate) fn fetch<'a, F: Shelf>(
     which: u8,
     most: u64,
 ) -> Result<Vec<u8>, Refusal<'a>>
-    requires short_name { length name.now ≤ 4096 }
+    requires short_name { length name.now ≤ longest_name }
     requires small { most < 2 ^ 32 }
     ensures read { IfOk result (λ bytes. IsRead (shelf_view F.Shelf shelf.old) (shelf_view F.Shelf shelf.new) name.now most bytes.items) }
     ensures unread { IfErr result (λ refusal.

@@ -6,7 +6,7 @@ mod execute;
 mod fetch;
 mod forms;
 mod laws;
-mod line;
+mod message;
 mod nests;
 mod program;
 mod refusal;
@@ -14,9 +14,11 @@ mod report;
 mod run_failure;
 pub mod shown_examples;
 mod start;
+mod status;
 #[cfg(test)]
 mod tests;
 
 pub use laws::one_outcome;
 pub use program::psi;
 pub use start::run;
+pub use status::Status;

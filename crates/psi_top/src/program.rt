@@ -1,5 +1,7 @@
 // The commands of the program.
 ghost use Rattle.std.specs.Prelude.{◌≡◌, ◌≢◌, ℕ, ℤ, ◌+◌, ◌≤◌, ◌⊎◌, List, [], ◌∷◌, length, map, IfErr, IfOk, IsSomeAnd, string_bytes, Contains};
+ghost use Rattle.moa_reader.specs.Limits.{longest_source};
+ghost use Rattle.psi_edges.specs.Limits.{longest_name};
 ghost use Rattle.moa_tree.specs.Expr.{Tree};
 ghost use Rattle.moa_tree.specs.Pools.{tree_of};
 ghost use Rattle.moa_tree.specs.Readings.{Reads};
@@ -27,23 +29,21 @@ use crate::fetch::fetch;
 use crate::forms::{FormKind, forms_of};
 use crate::laws::{one_outcome, texts_run};
 use crate::nests::nests_text;
-use crate::refusal::{CANNOT_WRITE_STATUS, Refusal, put_line, refuse};
+use crate::refusal::{Refusal, put_line, refuse};
 use crate::report::report_on;
-use moa_reader::{print, read};
+use crate::status::Status;
+use moa_reader::{LONGEST_SOURCE, print, read};
 use psi_compile::laws::causes_are_kept;
 use psi_compile::{CompileError, built_program, compile};
 use psi_edges::{Shelf, Sink, WriteFault, write_whole};
 use shape_check::{Checked, check};
 use std::alloc::Global;
 
-/// The greatest number of bytes in a source.
-const LONGEST_SOURCE: u64 = 1048576;
-
-const CANNOT_WRITE: &[u8] = b"psic: cannot write\n";
+const CANNOT_WRITE: &str = "psic: cannot write\n";
 
 /// The program that a source reads as, checked.
 fn checked(alloc: Global, source: &[u8]) -> Result<Checked, CompileError>
-    requires { length source.now ≤ 1048576 }
+    requires { length source.now ≤ longest_source }
     ensures read { IfOk result (λ checked. Reads source.now (tree_of checked.pools)) }
     ensures causes { IfErr result (λ error. IsCause source.now error) }
     ensures unbuilt { IfErr result (λ error. IsUnbuilt error → ⊥) }
@@ -55,7 +55,7 @@ fn checked(alloc: Global, source: &[u8]) -> Result<Checked, CompileError>
 
 /// The text that a task makes of a source.
 fn text_for(alloc: Global, task: Task, source: &[u8]) -> Result<Vec<u8>, CompileError>
-    requires { length source.now ≤ 1048576 }
+    requires { length source.now ≤ longest_source }
     ensures made { IfOk result (λ text. IsMade task source.now text.items) }
     ensures causes { IfErr result (λ error. IsCauseFor task source.now error) }
 {
@@ -76,13 +76,13 @@ fn source_answer<'a, F: Shelf>(
     name: &'a str,
     shelf: &mut F,
 ) -> Result<Vec<u8>, Refusal<'a>>
-    requires { length name.now ≤ 4096 }
+    requires { length name.now ≤ longest_name }
     ensures due { (words : List (List ℕ)) → IsCommand words task name.now
         → IsAnswer words (shelf_view F.Shelf shelf.old) (shelf_view F.Shelf shelf.new) result }
     ensures unchanged { F.files shelf.new ≡ F.files shelf.old }
     ensures later { F.faults shelf.old ≤ F.faults shelf.new }
     ensures more_given { F.given shelf.old ≤ F.given shelf.new }
-    ensures most_given { F.given shelf.new ≤ F.given shelf.old + 1048577 }
+    ensures most_given { F.given shelf.new ≤ F.given shelf.old + (longest_source + 1) }
 {
     let source = fetch(alloc, shelf, name, 1, LONGEST_SOURCE)?;
     match text_for(alloc, task, &source) {
@@ -113,7 +113,7 @@ fn answer_to<'a, F: Shelf>(
     ensures more_given { F.given shelf.old ≤ F.given shelf.new }
     ensures most_given { F.given shelf.new ≤ F.given shelf.old + most_read }
     ensures source_given { (task : AnyTask) (name : List ℕ) → IsCommand (map string_bytes words.now) task name
-        → F.given shelf.new ≤ F.given shelf.old + 1048577 }
+        → F.given shelf.new ≤ F.given shelf.old + (longest_source + 1) }
 {
     match command_of(words) {
         None => Err(Refusal::Usage),
@@ -123,7 +123,7 @@ fn answer_to<'a, F: Shelf>(
 }
 
 /// Puts the text, or says that it cannot be put. Answers the status.
-fn put_text<K: Sink, E: Sink>(out: &mut K, err: &mut E, text: &[u8]) -> u8
+fn put_text<K: Sink, E: Sink>(out: &mut K, err: &mut E, text: &[u8]) -> Status
     ensures put { (outcome : Outcome) → IsTextOf outcome text.now → status_of outcome ≡ 0 → line_of outcome ≡ []
         → IsPut outcome (sink_view K.Sink out.old) (sink_view K.Sink out.new)
         (sink_view E.Sink err.old) (sink_view E.Sink err.new) result }
@@ -131,8 +131,8 @@ fn put_text<K: Sink, E: Sink>(out: &mut K, err: &mut E, text: &[u8]) -> u8
     ensures err_later { E.faults err.old ≤ E.faults err.new }
 {
     match write_whole(out, text) {
-        Ok(()) => 0,
-        Err(WriteFault) => put_line(err, CANNOT_WRITE_STATUS, CANNOT_WRITE),
+        Ok(()) => Status::DONE,
+        Err(WriteFault) => put_line(err, Status::CANNOT_WRITE, CANNOT_WRITE),
     }
 }
 
@@ -142,7 +142,7 @@ fn publish<K: Sink, E: Sink>(
     out: &mut K,
     err: &mut E,
     answer: Result<Vec<u8>, Refusal<'_>>,
-) -> u8
+) -> Status
     ensures put { IsPublished answer.entry (sink_view K.Sink out.old) (sink_view K.Sink out.new)
         (sink_view E.Sink err.old) (sink_view E.Sink err.new) result }
     ensures out_later { K.faults out.old ≤ K.faults out.new }
@@ -156,26 +156,28 @@ fn publish<K: Sink, E: Sink>(
 
 /// Runs the command that the words give, over a shelf of files, a sink for what is put out and a sink for
 /// what is said of errors, and answers the status. The commands are `check FILE`, `show dnf FILE`,
-/// `show onf FILE`, `show source FILE`, `compile FILE` and `run ASM DATA`, with names of at most 4096 bytes.
+/// `show onf FILE`, `show nest FILE`, `show source FILE`, `compile FILE` and `run ASM DATA`, with names of at
+/// most `LONGEST_NAME` bytes.
 ///
 /// | status | comes | line put to `err` |
 /// |---|---|---|
 /// | 0 | the whole text was put to `out` | none |
-/// | 1 | the words are no command | `usage: psic check FILE \| show dnf\|onf\|source FILE \| compile FILE \| run ASM DATA` |
-/// | 2 | a read of the file failed | `psic: cannot read FILE` |
+/// | 1 | the words are no command | `usage: psic check FILE \| show dnf\|onf\|nest\|source FILE \| compile FILE \| run ASM DATA` |
+/// | 2 | a read of a file failed | `psic: cannot read FILE`, with the name of that file |
 /// | 3 | a put failed | `psic: cannot write`, where that was of `out` |
-/// | 4 | the file is no program | `FILE:LINE:COLUMN: text CAUSE: ` and the cause in words |
-/// | 5 | a shape rule is the first to fail in the program, for `check` and every `show` | `FILE:LINE:COLUMN: rule RULE: ` and the rule in words |
-/// | 6 | the file has more than 1048576 bytes | `FILE: limit 1: longer than 1048576 bytes` |
-/// | 6 | a limit is the first to fail in the program, for `check` and every `show` | `FILE:LINE:COLUMN: limit LIMIT: VALUE exceeds GREATEST`, without a place where it is one of the whole program |
-/// | 6 | the assembly text has more than 33554432 bytes, or the array file more than 268435456 | `ASM: limit 8: longer than 33554432 bytes`, `DATA: limit 9: longer than 268435456 bytes` |
-/// | 6 | the block of the assembly text has more than 4194304 words | `ASM: limit 10: VALUE exceeds 4194304` |
+/// | 4 | the source is no program | `FILE:LINE:COLUMN: text CAUSE: ` and the cause in words |
+/// | 5 | a shape rule is the first to fail in the program | `FILE:LINE:COLUMN: rule RULE: ` and the rule in words |
+/// | 6 | the source has more than `LONGEST_SOURCE` bytes | `FILE: limit 1: longer than MOST bytes` |
+/// | 6 | a limit is the first to fail in the program | `FILE:LINE:COLUMN: limit LIMIT: VALUE exceeds GREATEST`, without a place where it is one of the whole program |
+/// | 6 | the assembly text has more than `LONGEST_ASSEMBLY` bytes, or the array file more than `LONGEST_ARRAYS` | `ASM: limit 8: longer than MOST bytes`, `DATA: limit 9: longer than MOST bytes` |
+/// | 6 | the block of the assembly text has more than `GREATEST_BLOCK` words | `ASM: limit 10: VALUE exceeds GREATEST` |
 /// | 7 | the array file does not hold the inputs of the assembly text | `DATA:LINE: data CAUSE: ` and the cause in words |
 /// | 8 | the file is no assembly text | `ASM:LINE: assembly CAUSE: ` and the cause in words |
 /// | 9 | the run stopped before its end | `ASM:LINE: stopped: access ADDRESS`, `ASM: stopped: off text ADDRESS`, `ASM:LINE: stopped: trap` or `ASM: stopped: budget STEPS` |
 /// | 10 | memory was wanted | `psic: no memory` |
-/// | 11 | the program is of no form that is built, for `compile` alone | `FILE:LINE:COLUMN: not built`, at its first name |
+/// | 11 | for `compile` and `show nest`: an expression is not built | `FILE:LINE:COLUMN: not built`, at the first such word |
 ///
+/// A source is tried for 4, then, for `compile` and `show nest`, for 11, and then for 5 and 6.
 /// Everything is composed before the first byte is put.
 pub fn psi<F: Shelf, K: Sink, E: Sink>(
     alloc: Global,
@@ -183,7 +185,7 @@ pub fn psi<F: Shelf, K: Sink, E: Sink>(
     shelf: &mut F,
     out: &mut K,
     err: &mut E,
-) -> u8
+) -> Status
     // What is due is put, with its status, or a put of it failed.
     ensures answered { (outcome : Outcome)
         × IsDue (map string_bytes words.now) (shelf_view F.Shelf shelf.old) (shelf_view F.Shelf shelf.new) outcome
@@ -222,7 +224,7 @@ pub fn psi<F: Shelf, K: Sink, E: Sink>(
     ensures given { (F.given shelf.old ≤ F.given shelf.new)
         × (F.given shelf.new ≤ F.given shelf.old + most_read) }
     ensures source_given { (task : AnyTask) (name : List ℕ) → IsCommand (map string_bytes words.now) task name
-        → F.given shelf.new ≤ F.given shelf.old + 1048577 }
+        → F.given shelf.new ≤ F.given shelf.old + (longest_source + 1) }
 {
     one_outcome();
     texts_run();

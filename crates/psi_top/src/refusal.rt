@@ -1,26 +1,25 @@
 // Why a command is refused, and how that is said.
-ghost use Rattle.std.specs.Prelude.{◌≡◌, ◌≤◌, ◌++◌, IfOk, OnOk, codes};
+ghost use Rattle.std.specs.Prelude.{◌≡◌, ◌≤◌, IfOk, Some, string_bytes};
 ghost use Rattle.psi_top.specs.Answer.{IsSaid, outcome_of};
 ghost use Rattle.shape_check.specs.Rules.{greatest};
-ghost use Rattle.psi_top.specs.Line.{cause_words, counted, longer_line, place, place_or_whole, rule_words};
+ghost use Rattle.psi_top.specs.Line.{cause_words, rule_words};
 ghost use Rattle.psi_top.specs.Outcome.{Outcome, line_of, status_of};
 ghost use Rattle.psi_top.specs.Put.{IsLinePut};
 ghost use Rattle.psi_top.specs.Views.{sink_view};
 
-use crate::line::{push_excess, push_number, push_reason};
-use crate::run_failure::RunFailure;
+use crate::message::{Excess, Place, PlaceOrWhole};
+use crate::run_failure::{FailedRun, RunFailure};
+use crate::status::Status;
 use psi_edges::{Sink, WriteFault, write_whole};
-use shapes_core::NoMemory;
+use shapes_core::{GREATEST_EXTENT, GREATEST_SIZE, GREATEST_WORK, MOST_AXES, MOST_WORDS, NoMemory};
 use std::alloc::Global;
+use std::fmt;
 use text_tokens::Position;
 
-/// The status where a put failed.
-pub(crate) const CANNOT_WRITE_STATUS: u8 = 3;
+const USAGE: &str =
+    "usage: psic check FILE | show dnf|onf|nest|source FILE | compile FILE | run ASM DATA\n";
 
-const USAGE: &[u8] =
-    b"usage: psic check FILE | show dnf|onf|nest|source FILE | compile FILE | run ASM DATA\n";
-
-const NO_MEMORY: &[u8] = b"psic: no memory\n";
+const NO_MEMORY: &str = "psic: no memory\n";
 
 /// Why a source is refused, by the number of the cause, from 1 on.
 const CAUSES: [&str; 14] = [
@@ -39,9 +38,6 @@ const CAUSES: [&str; 14] = [
     "an operator is wanted",
     "the expression is nested too deep",
 ];
-
-/// The greatest value of each limit on shapes and programs, by its number less 2.
-const GREATEST: [u64; 6] = [6, 16777216, 16777216, 1024, 1 << 40, 134217728];
 
 /// Why a command is refused.
 #[derive(Clone, Copy)]
@@ -130,104 +126,54 @@ fn rule_words(rule: u8) -> &'static str
     }
 }
 
-/// Adds a place of the file of this name.
-fn push_place(line: &mut Vec<u8>, name: &str, at: Position) -> Result<(), NoMemory>
-    ensures { OnOk result (line.new.items ≡ line.old.items ++ place name.now at) }
-{
-    line.extend_from_slice(name.as_bytes())?;
-    line.extend_from_slice(b":")?;
-    push_number(line, u64::from(at.line))?;
-    line.extend_from_slice(b":")?;
-    push_number(line, u64::from(at.column))?;
-    line.extend_from_slice(b": ")?;
-    Ok(())
-}
-
-/// Adds a place of the file of this name, or that name where it is the file as a whole.
-fn push_place_or_whole(line: &mut Vec<u8>, name: &str, at: Option<Position>) -> Result<(), NoMemory>
-    ensures { OnOk result (line.new.items ≡ line.old.items ++ place_or_whole name.now at) }
-{
-    match at {
-        Some(at) => push_place(line, name, at),
-        None => {
-            line.extend_from_slice(name.as_bytes())?;
-            line.extend_from_slice(b": ")?;
-            Ok(())
-        }
-    }
-}
-
 /// The greatest value of a limit.
 fn greatest(which: u8) -> u64
     ensures { result ≡ greatest which }
 {
-    let greatest: [u64; 6] = GREATEST;
     match which {
-        2..=7 => greatest[(which - 2) as usize],
+        2 => MOST_AXES as u64,
+        3 | 4 => GREATEST_EXTENT,
+        5 => GREATEST_SIZE,
+        6 => GREATEST_WORK,
+        7 => MOST_WORDS,
         _ => 0,
     }
 }
 
-/// Adds a name between two texts.
-fn push_named(line: &mut Vec<u8>, front: &str, name: &str, back: &str) -> Result<(), NoMemory>
-    ensures { OnOk result (line.new.items ≡ line.old.items ++ (front.now ++ name.now ++ back.now)) }
-{
-    line.extend_from_slice(front.as_bytes())?;
-    line.extend_from_slice(name.as_bytes())?;
-    line.extend_from_slice(back.as_bytes())?;
-    Ok(())
-}
-
-/// Adds a number between two texts.
-fn push_counted(line: &mut Vec<u8>, front: &str, number: u64, back: &str) -> Result<(), NoMemory>
-    ensures { OnOk result (line.new.items ≡ line.old.items ++ counted front.now number back.now) }
-{
-    line.extend_from_slice(front.as_bytes())?;
-    push_number(line, number)?;
-    line.extend_from_slice(back.as_bytes())?;
-    Ok(())
-}
-
-/// Adds that the file of this name has more bytes than a limit allows.
-fn push_longer(line: &mut Vec<u8>, name: &str, which: u8, most: u64) -> Result<(), NoMemory>
-    ensures { OnOk result (line.new.items ≡ line.old.items ++ longer_line name.now which most) }
-{
-    line.extend_from_slice(name.as_bytes())?;
-    push_counted(line, ": limit ", u64::from(which), ": ")?;
-    push_counted(line, "longer than ", most, " bytes\n")
-}
-
 impl Refusal<'_> {
-    fn status(self) -> u8
+    fn status(self) -> Status
         ensures { result ≡ status_of (outcome_of self.entry) }
     {
         match self {
-            Refusal::Usage => 1,
-            Refusal::CannotRead(_) => 2,
-            Refusal::Text { .. } => 4,
-            Refusal::Rule { .. } => 5,
-            Refusal::TooLong { .. } | Refusal::Limit { .. } => 6,
+            Refusal::Usage => Status::MISUSE,
+            Refusal::CannotRead(_) => Status::CANNOT_READ,
+            Refusal::Text { .. } => Status::NO_PROGRAM,
+            Refusal::Rule { .. } => Status::RULE,
+            Refusal::TooLong { .. } | Refusal::Limit { .. } => Status::LIMIT,
             Refusal::Run { failure, .. } => failure.status(),
-            Refusal::Memory => 10,
-            Refusal::NotBuilt { .. } => 11,
+            Refusal::Memory => Status::NO_MEMORY,
+            Refusal::NotBuilt { .. } => Status::NOT_BUILT,
         }
     }
+}
 
-    fn line(self, alloc: Global) -> Result<Vec<u8>, NoMemory>
-        ensures { IfOk result (λ line. line.items ≡ line_of (outcome_of self.entry)) }
-    {
-        let mut line = Vec::new(alloc);
-        match self {
-            Refusal::Usage => line.extend_from_slice(USAGE)?,
-            Refusal::CannotRead(name) => push_named(&mut line, "psic: cannot read ", name, "\n")?,
-            Refusal::TooLong { name, which, most } => push_longer(&mut line, name, which, most)?,
+impl fmt::Display for Refusal<'_> {
+    ghost output = { λ refusal. Some (line_of (outcome_of refusal)) };
+
+    fn fmt<W: fmt::Write>(&self, f: &mut fmt::Formatter<W>) -> fmt::Result {
+        match *self {
+            Refusal::Usage => f.write_str(USAGE),
+            Refusal::CannotRead(name) => writeln!(f, "psic: cannot read {name}"),
+            Refusal::TooLong { name, which, most } => {
+                writeln!(f, "{name}: limit {which}: longer than {most} bytes")
+            }
             Refusal::Text { name, at, cause } => {
-                push_place(&mut line, name, at)?;
-                push_reason(&mut line, "text ", cause, cause_words(cause))?;
+                let at = Place { name, at };
+                writeln!(f, "{at}text {cause}: {}", cause_words(cause))
             }
             Refusal::Rule { name, at, rule } => {
-                push_place(&mut line, name, at)?;
-                push_reason(&mut line, "rule ", rule, rule_words(rule))?;
+                let at = Place { name, at };
+                writeln!(f, "{at}rule {rule}: {}", rule_words(rule))
             }
             Refusal::Limit {
                 name,
@@ -235,33 +181,37 @@ impl Refusal<'_> {
                 which,
                 value,
             } => {
-                push_place_or_whole(&mut line, name, at)?;
-                push_excess(&mut line, which, value, greatest(which))?;
+                let at = PlaceOrWhole { name, at };
+                let most = greatest(which);
+                write!(f, "{at}{}", Excess { which, value, most })
             }
-            Refusal::NotBuilt { name, at } => {
-                push_place(&mut line, name, at)?;
-                line.extend_from_slice(b"not built\n")?;
-            }
-            Refusal::Run { name, failure } => failure.push(&mut line, name)?,
-            Refusal::Memory => line.extend_from_slice(NO_MEMORY)?,
+            Refusal::NotBuilt { name, at } => writeln!(f, "{}not built", Place { name, at }),
+            Refusal::Run { name, failure } => write!(f, "{}", FailedRun { name, failure }),
+            Refusal::Memory => f.write_str(NO_MEMORY),
         }
-        Ok(line)
     }
 }
 
+/// The line that says why a command is refused.
+fn line_of(alloc: Global, refusal: Refusal<'_>) -> Result<String, NoMemory>
+    ensures { IfOk result (λ line. string_bytes line ≡ line_of (outcome_of refusal.entry)) }
+{
+    Ok(format!(in alloc; "{refusal}")?)
+}
+
 /// Puts a line. Answers the status, or that a put failed.
-pub(crate) fn put_line<E: Sink>(err: &mut E, status: u8, line: &[u8]) -> u8
+pub(crate) fn put_line<E: Sink>(err: &mut E, status: Status, line: &str) -> Status
     ensures put { IsLinePut status line.now (sink_view E.Sink err.old) (sink_view E.Sink err.new) result }
     ensures later { E.faults err.old ≤ E.faults err.new }
 {
-    match write_whole(err, line) {
+    match write_whole(err, line.as_bytes()) {
         Ok(()) => status,
-        Err(WriteFault) => CANNOT_WRITE_STATUS,
+        Err(WriteFault) => Status::CANNOT_WRITE,
     }
 }
 
 /// Says why a command is refused, or that there is no memory to say it. The line of wrong words takes none.
-pub(crate) fn refuse<E: Sink>(alloc: Global, err: &mut E, refusal: Refusal<'_>) -> u8
+pub(crate) fn refuse<E: Sink>(alloc: Global, err: &mut E, refusal: Refusal<'_>) -> Status
     ensures put { (said : Outcome) × IsSaid (outcome_of refusal.entry) said
         × IsLinePut (status_of said) (line_of said) (sink_view E.Sink err.old) (sink_view E.Sink err.new) result }
     ensures later { E.faults err.old ≤ E.faults err.new }
@@ -269,7 +219,7 @@ pub(crate) fn refuse<E: Sink>(alloc: Global, err: &mut E, refusal: Refusal<'_>) 
     if let Refusal::Usage = refusal {
         return put_line(err, refusal.status(), USAGE);
     }
-    match refusal.line(alloc) {
+    match line_of(alloc, refusal) {
         Ok(line) => put_line(err, refusal.status(), &line),
         Err(NoMemory) => put_line(err, Refusal::Memory.status(), NO_MEMORY),
     }

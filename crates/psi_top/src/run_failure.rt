@@ -1,11 +1,12 @@
 // Why there is no run of an assembly text, or none to its end, and how that is said.
-ghost use Rattle.std.specs.Prelude.{◌≡◌, ◌++◌, ℕ, List, OnOk};
+ghost use Rattle.std.specs.Prelude.{◌≡◌, ℕ, List, Some};
 ghost use Rattle.psi_top.specs.Answer.{failed_run};
-ghost use Rattle.psi_top.specs.Line.{access_line, assembly_words, block_line, budget_line, data_words, off_text_line, trap_line};
+ghost use Rattle.psi_top.specs.Line.{assembly_words, data_words};
 ghost use Rattle.psi_top.specs.Outcome.{line_of, status_of};
 
-use crate::line::{push_excess, push_line_place, push_number, push_reason};
-use shapes_core::NoMemory;
+use crate::message::{Excess, LinePlace};
+use crate::status::Status;
+use std::fmt;
 
 /// Why an assembly text is refused, by the number of the cause, from 1 on.
 const ASSEMBLY_CAUSES: [&str; 12] = [
@@ -37,7 +38,7 @@ const DATA_CAUSES: [&str; 9] = [
 ];
 
 /// The greatest number of words in the block of an assembly text.
-pub(crate) const MOST_WORDS: u64 = 4194304;
+pub(crate) const GREATEST_BLOCK: u64 = 4194304;
 
 /// Why there is no run of an assembly text, or none to its end. Lines count from 1.
 #[derive(Clone, Copy)]
@@ -82,86 +83,58 @@ fn data_words(cause: u8) -> &'static str
         .unwrap_or("")
 }
 
-/// Adds that the assembly text of this name wants a block of too many words.
-fn push_block(line: &mut Vec<u8>, name: &str, words: u64) -> Result<(), NoMemory>
-    ensures { OnOk result (line.new.items ≡ line.old.items ++ block_line name.now words) }
-{
-    line.extend_from_slice(name.as_bytes())?;
-    line.extend_from_slice(b": ")?;
-    push_excess(line, 10, words, MOST_WORDS)
-}
-
-fn push_access(line: &mut Vec<u8>, name: &str, at: u32, address: u64) -> Result<(), NoMemory>
-    ensures { OnOk result (line.new.items ≡ line.old.items ++ access_line name.now at address) }
-{
-    push_line_place(line, name, at)?;
-    line.extend_from_slice(b"stopped: access ")?;
-    push_number(line, address)?;
-    line.extend_from_slice(b"\n")?;
-    Ok(())
-}
-
-fn push_off_text(line: &mut Vec<u8>, name: &str, address: u64) -> Result<(), NoMemory>
-    ensures { OnOk result (line.new.items ≡ line.old.items ++ off_text_line name.now address) }
-{
-    line.extend_from_slice(name.as_bytes())?;
-    line.extend_from_slice(b": stopped: off text ")?;
-    push_number(line, address)?;
-    line.extend_from_slice(b"\n")?;
-    Ok(())
-}
-
-fn push_trap(line: &mut Vec<u8>, name: &str, at: u32) -> Result<(), NoMemory>
-    ensures { OnOk result (line.new.items ≡ line.old.items ++ trap_line name.now at) }
-{
-    push_line_place(line, name, at)?;
-    line.extend_from_slice(b"stopped: trap\n")?;
-    Ok(())
-}
-
-fn push_budget(line: &mut Vec<u8>, name: &str, steps: u64) -> Result<(), NoMemory>
-    ensures { OnOk result (line.new.items ≡ line.old.items ++ budget_line name.now steps) }
-{
-    line.extend_from_slice(name.as_bytes())?;
-    line.extend_from_slice(b": stopped: budget ")?;
-    push_number(line, steps)?;
-    line.extend_from_slice(b"\n")?;
-    Ok(())
-}
-
 impl RunFailure {
-    pub(crate) fn status(self) -> u8
+    pub(crate) fn status(self) -> Status
         ensures { (name : List ℕ) → result ≡ status_of (failed_run name self) }
     {
         match self {
-            RunFailure::Block { .. } => 6,
-            RunFailure::Data { .. } => 7,
-            RunFailure::Assembly { .. } => 8,
+            RunFailure::Block { .. } => Status::LIMIT,
+            RunFailure::Data { .. } => Status::NO_ARRAYS,
+            RunFailure::Assembly { .. } => Status::NO_ASSEMBLY,
             RunFailure::Access { .. }
             | RunFailure::OffText { .. }
             | RunFailure::Trap { .. }
-            | RunFailure::Budget { .. } => 9,
+            | RunFailure::Budget { .. } => Status::STOPPED,
         }
     }
+}
 
-    /// Adds the line that says so of the file of this name.
-    pub(crate) fn push(self, line: &mut Vec<u8>, name: &str) -> Result<(), NoMemory>
-        ensures { OnOk result (line.new.items ≡ line.old.items ++ line_of (failed_run name.now self)) }
-    {
-        match self {
-            RunFailure::Assembly { line: at, cause } => {
-                push_line_place(line, name, at)?;
-                push_reason(line, "assembly ", cause, assembly_words(cause))
+/// A failure with the name of the file that it is said of.
+#[derive(Clone, Copy)]
+pub(crate) struct FailedRun<'a> {
+    pub(crate) name: &'a str,
+    pub(crate) failure: RunFailure,
+}
+
+impl fmt::Display for FailedRun<'_> {
+    ghost output = { λ run. Some (line_of (failed_run run.name.now run.failure)) };
+
+    fn fmt<W: fmt::Write>(&self, f: &mut fmt::Formatter<W>) -> fmt::Result {
+        let name = self.name;
+        match self.failure {
+            RunFailure::Assembly { line, cause } => {
+                let at = LinePlace { name, line };
+                writeln!(f, "{at}assembly {cause}: {}", assembly_words(cause))
             }
-            RunFailure::Block { words } => push_block(line, name, words),
-            RunFailure::Data { line: at, cause } => {
-                push_line_place(line, name, at)?;
-                push_reason(line, "data ", cause, data_words(cause))
+            RunFailure::Block { words } => {
+                let excess = Excess {
+                    which: 10,
+                    value: words,
+                    most: GREATEST_BLOCK,
+                };
+                write!(f, "{name}: {excess}")
             }
-            RunFailure::Access { line: at, address } => push_access(line, name, at, address),
-            RunFailure::OffText { address } => push_off_text(line, name, address),
-            RunFailure::Trap { line: at } => push_trap(line, name, at),
-            RunFailure::Budget { steps } => push_budget(line, name, steps),
+            RunFailure::Data { line, cause } => {
+                let at = LinePlace { name, line };
+                writeln!(f, "{at}data {cause}: {}", data_words(cause))
+            }
+            RunFailure::Access { line, address } => {
+                let at = LinePlace { name, line };
+                writeln!(f, "{at}stopped: access {address}")
+            }
+            RunFailure::OffText { address } => writeln!(f, "{name}: stopped: off text {address}"),
+            RunFailure::Trap { line } => writeln!(f, "{}stopped: trap", LinePlace { name, line }),
+            RunFailure::Budget { steps } => writeln!(f, "{name}: stopped: budget {steps}"),
         }
     }
 }

@@ -6,18 +6,13 @@ ghost use Rattle.psi_top.specs.Put.{IsPut};
 ghost use Rattle.psi_top.specs.Views.{shelf_view, sink_view};
 
 use crate::program::psi;
+use crate::status::Status;
 use psi_edges::{DiskShelf, ErrSink, OutSink, Shelf, Sink};
 use std::env::Env;
 use std::io::{Stderr, Stdout};
 use std::process::ExitCode;
 use std::rt::Files;
 use std::{env, io};
-
-/// The status where the words are no text.
-const NO_TEXT: u8 = 1;
-
-/// The status where there is no memory for the words.
-const NO_MEMORY: u8 = 10;
 
 /// The words that the program is started with, without its own name.
 fn words<R: Env + AllocGlobal>(rt: &R) -> io::Result<Vec<String>> {
@@ -42,11 +37,12 @@ fn run_over<R: Env + AllocGlobal, F: Shelf, K: Sink, E: Sink>(
         ⊎ (Contains (1 ∷ 10 ∷ []) (exit_status result)
         × (shelf.new ≡ shelf.old) × (out.new ≡ out.old) × (err.new ≡ err.old)) }
 {
-    match words(rt) {
-        Ok(words) => ExitCode::from(psi(rt.alloc(), &words, shelf, out, err)),
-        Err(error) if error.kind() == io::ErrorKind::OutOfMemory => ExitCode::from(NO_MEMORY),
-        Err(_) => ExitCode::from(NO_TEXT),
-    }
+    let status = match words(rt) {
+        Ok(words) => psi(rt.alloc(), &words, shelf, out, err),
+        Err(error) if error.kind() == io::ErrorKind::OutOfMemory => Status::NO_MEMORY,
+        Err(_) => Status::MISUSE,
+    };
+    ExitCode::from(status.byte())
 }
 
 /// Runs the command that the program is started with, over real files and the standard streams.

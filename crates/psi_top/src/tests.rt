@@ -62,7 +62,7 @@ fn call_over(
     }
     let status = psi(alloc, &owned, shelf, out, err);
     Ok(Answer {
-        status,
+        status: status.byte(),
         out: Vec::from_slice(alloc, out.held())?,
         err: Vec::from_slice(alloc, err.held())?,
     })

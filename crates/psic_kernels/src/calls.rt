@@ -32,7 +32,7 @@ fn call(alloc: Global, line: &str, shelf: &mut MemoryShelf) -> Result<Answer, Fa
     let mut err = MemorySink::new(alloc, ROOM, ROOM)?;
     let status = psi(alloc, &words, shelf, &mut out, &mut err);
     Ok(Answer {
-        status,
+        status: status.byte(),
         out: Vec::from_slice(alloc, out.held())?,
         err: Vec::from_slice(alloc, err.held())?,
     })

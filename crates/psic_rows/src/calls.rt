@@ -29,7 +29,7 @@ pub(crate) fn over_source(alloc: Global, command: &str, source: &str) -> Result<
     words.push(String::from_str(alloc, "k.moa")?)?;
     let status = psi(alloc, &words, &mut shelf, &mut out, &mut err);
     Ok(Answer {
-        status,
+        status: status.byte(),
         out: Vec::from_slice(alloc, out.held())?,
         err: Vec::from_slice(alloc, err.held())?,
     })

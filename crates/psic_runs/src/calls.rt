@@ -67,7 +67,7 @@ pub(crate) fn call_over(
     }
     let status = psi(alloc, &words, shelf, out, err);
     Ok(Answer {
-        status,
+        status: status.byte(),
         out: Vec::from_slice(alloc, out.held())?,
         err: Vec::from_slice(alloc, err.held())?,
     })

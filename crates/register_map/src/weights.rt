@@ -6,6 +6,7 @@ ghost use Rattle.loop_ir.specs.Steps.{End};
 ghost use Rattle.register_map.specs.Codes.{Weighs, codes_of, has_weight, is_among};
 
 use crate::codes::{place_code, register_code};
+use loop_ir::laws::lists_in_order;
 use loop_ir::{Nest, Step};
 use shapes_core::NoMemory;
 use std::alloc::Global;
@@ -36,6 +37,7 @@ fn weigh_list(
     requires { number < length nest.now }
     ensures { OnOk result (Weighs (codes_of (tree_at (trees_from 0 nest.now) number)) weights.old.entries weights.new.entries) }
 {
+    lists_in_order();
     for step in nest.list(number) {
         weigh_step(nest, *step, turns, weights)?;
     }

@@ -6,7 +6,7 @@ use Rattle.shapes_core.specs.Shape.{total}
 use Rattle.shapes_core.specs.declared.area.Area.{Area}
 use Rattle.shapes_core.specs.declared.area.AreaKind.TheVariants.{In, Out, Scan}
 use Rattle.shape_check.specs.Blocks.{ArePacked as Packs, IsLayout}
-use Rattle.rv_line.specs.Fits.{AreAreas, AreInOrder, AreOuts, AreScans, ArePacked, IsArea, names}
+use Rattle.rv_line.specs.Fits.{AreAreas, AreInOrder, AreOuts, AreScans, ArePacked, IsArea, area_names}
 
 scans : (number count : ℕ) → AreScans number (map Scan (range_with_len number count))
 scans number zero = tt
@@ -24,15 +24,15 @@ ins [] [] (suc count) = scans 0 (suc count)
 ins [] (name ∷ outputs) count = outs (name ∷ outputs) count
 ins (name ∷ inputs) outputs count = ins inputs outputs count
 
-no-names : (numbers : List ℕ) → names (map Scan numbers) ≡ []
+no-names : (numbers : List ℕ) → area_names (map Scan numbers) ≡ []
 no-names [] = refl
 no-names (number ∷ numbers) = no-names numbers
 
-out-names : (outputs : List (List ℕ)) (numbers : List ℕ) → names (map Out outputs ++ map Scan numbers) ≡ outputs
+out-names : (outputs : List (List ℕ)) (numbers : List ℕ) → area_names (map Out outputs ++ map Scan numbers) ≡ outputs
 out-names [] numbers = no-names numbers
 out-names (name ∷ outputs) numbers = ap (λ list. name ∷ list) (out-names outputs numbers)
 
-all-names : (inputs outputs : List (List ℕ)) (numbers : List ℕ) → names (map In inputs ++ (map Out outputs ++ map Scan numbers))
+all-names : (inputs outputs : List (List ℕ)) (numbers : List ℕ) → area_names (map In inputs ++ (map Out outputs ++ map Scan numbers))
     ≡ inputs ++ outputs
 all-names [] outputs numbers = out-names outputs numbers
 all-names (name ∷ inputs) outputs numbers = ap (λ list. name ∷ list) (all-names inputs outputs numbers)
@@ -49,7 +49,7 @@ areas-fit areas h each =
     record {
       each = each;
       in_order = subst AreInOrder (sym kinds) (ins h.inputs h.outputs h.scans);
-      differ = subst (λ list. AllPairs (λ one other. one ≢ other) list) (sym (ap names kinds
+      differ = subst (λ list. AllPairs (λ one other. one ≢ other) list) (sym (ap area_names kinds
           ∙ all-names h.inputs h.outputs numbers)) h.differ;
       packed = packs 0 areas h.packed;
     }

@@ -23,22 +23,26 @@ use Rattle.rv_steps.specs.Registers.{is_among}
 use Rattle.rv_steps.specs.Wrapped.{wrapped}
 use Rattle.rv_emit.specs.Counting.{run_counting}
 use Rattle.rv_emit.specs.Emitting.{Piece, Plan, home_at, lists_of, settled}
+use Rattle.rv_emit.specs.Handling.{Fetching}
+use Rattle.rv_emit.specs.MachineLaws.{MachineLaws}
 use Rattle.rv_emit.specs.Moving.{fetch_lines, register_of}
 use Rattle.rv_emit.specs.Showing.{AreTouches, IsSetting, Shows}
 use Rattle.rv_emit.specs.Simulating.{is_steady}
 use Rattle.rv_emit.proofs.CountingLemmas.{counting-many}
 use Rattle.rv_emit.proofs.JumpLemmas.{Jumped, branch, jump, jumped-keeps, shows-idle}
 use Rattle.rv_emit.proofs.LoopLemmas.{setting-for}
-use Rattle.rv_emit.proofs.SimulateLemmas.{Fetched, KeepsBut, Laws, Ran, Way, among-one, among-two, given-low, home-found, keeps-from, keeps-on, length-of-three, ran, ran-then, way-ran, way-same, way-then, way-within}
+use Rattle.rv_emit.proofs.ShowLemmas.{home-there}
+use Rattle.rv_emit.proofs.SimulateLemmas.{KeepsBut, Ran, Way, among-one, among-two, given-low, keeps-from, keeps-on, length-of-three}
+use Rattle.rv_emit.proofs.SimulateLemmas.{ran, ran-then, way-ran, way-same, way-then, way-within}
 use Rattle.rv_emit.proofs.TurnLemmas.{ListWay}
 
 -- ---- the test
 
-signed-back : (laws : Laws) (x : ℤ) → Fits64 x → signed_value (wrapped x) ≡ x
+signed-back : (laws : MachineLaws) (x : ℤ) → Fits64 x → signed_value (wrapped x) ≡ x
 signed-back laws x fit = ap signed_value (sym (laws.signed x fit)) ∙ to_z-of_z w64 x fit
 
 -- words compare as the numbers do
-pub compares : (laws : Laws) (x y : ℤ) (a b : ℕ) → Fits64 x → Fits64 y → a ≡ wrapped x → b ≡ wrapped y
+pub compares : (laws : MachineLaws) (x y : ℤ) (a b : ℕ) → Fits64 x → Fits64 y → a ≡ wrapped x → b ≡ wrapped y
     → int_lt (signed_value a) (signed_value b) ≡ int_lt x y
 compares laws x y a b fit small g h =
     ap₂ int_lt (ap signed_value g ∙ signed-back laws x fit) (ap signed_value h ∙ signed-back laws y small)
@@ -57,7 +61,7 @@ pub record Tested (lines : List Line) (base spill n to : ℕ) (home : Home) (lef
   pub first : register_at run.last.registers (register_of 28 home) ≡ left
   pub second : register_at run.last.registers 29 ≡ below
 
-module _ (laws : Laws) (fetch : Fetched) (lines : List Line) (plan : Plan) (base : ℕ) where
+module _ (laws : MachineLaws) (fetch : Fetching) (lines : List Line) (plan : Plan) (base : ℕ) where
   pub tested : (at left : ℕ) (below : ℤ) (keys : Keys) (state : State) (c : Config) → IsSetting plan base (length state.words)
       → IsSome (home_of plan.homes (Register left)) → keys (Register left) ≡ true → Fits64 below → Shows plan base [] keys state c
       → StandsAt lines at (fetch_lines 28 (home_at plan (Register left)) ++ constant_lines 29 below) → c.pc ≡ address_of at
@@ -66,12 +70,12 @@ module _ (laws : Laws) (fetch : Fetched) (lines : List Line) (plan : Plan) (base
       (wrapped (state.held (Register left))) (wrapped below) c
   tested at left below keys state c setting some known small shows stands pc =
       let home = home_at plan (Register left) in
-      let there = home-found plan (Register left) some in
+      let there = home-there plan (Register left) some in
       let is = setting.homes (Register left) home there in
       let fetches = fetch_lines 28 home in
       let constant = constant_lines 29 below in
       let middle = at + length fetches in
-      let f = fetch lines base plan.spill (length state.words) at 28 home c setting.aligned setting.room setting.few shows.block is
+      let f = fetch lines base plan.spill (length state.words) at 28 home c setting.room shows.block is
       (omega arith) (omega arith) (laws.front lines at fetches constant stands) pc in
       let d = f.run.last in
       let word = word_of below in
@@ -102,7 +106,7 @@ module _ (laws : Laws) (fetch : Fetched) (lines : List Line) (plan : Plan) (base
 
 -- ---- the lists
 
-module _ (laws : Laws) (lines : List Line) (plan : Plan) (base words : ℕ) (one other : Steps) (keys : Keys)
+module _ (laws : MachineLaws) (lines : List Line) (plan : Plan) (base words : ℕ) (one other : Steps) (keys : Keys)
     (first_way : ListWay lines plan base words one keys) (second_way : ListWay lines plan base words other keys) where
   -- one jump, after which the same is shown
   jump-way : (n to : ℕ) (keys : Keys) (state : State) (c : Config) → length state.words ≡ words → IsSetting plan base words

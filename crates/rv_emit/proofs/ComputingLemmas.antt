@@ -14,42 +14,16 @@ use Rattle.rv_line.specs.declared.line.Branch.{Branch}
 use Rattle.rv_line.specs.declared.line.Imm.{Imm}
 use Rattle.rv_line.specs.declared.line.Line.{Line}
 use Rattle.rv_line.specs.declared.line.Three.{Three}
-use Rattle.rv_steps.specs.Accesses.{Leads, touched}
+use Rattle.rv_steps.specs.Accesses.{Leads}
 use Rattle.rv_steps.specs.Effects.{immediate_value, is_taken, three_value}
-use Rattle.rv_steps.specs.Machine.{Access, Config, Goes, IsAt, NoAccess, access_of, address_of, line_step, next_step, register_at, with_register, with_result}
+use Rattle.rv_steps.specs.Machine.{Config, Goes, IsAt, NoAccess, access_of, address_of, next_step, register_at, with_register, with_result}
 use Rattle.rv_steps.specs.Pieces.{StandsAt}
 use Rattle.rv_steps.specs.Registers.{AgreeBut, is_among}
 use Rattle.rv_steps.specs.Wrapped.{wrapped}
 use Rattle.rv_emit.specs.Computing.{one_lines, two_lines}
+use Rattle.rv_emit.specs.MachineLaws.{MachineLaws}
 use Rattle.rv_emit.specs.Simulating.{Computes, is_steady_op}
 use Rattle.rv_emit.proofs.OperatorLemmas.{abs_is, add_is, and_is, eq_is, le_is, lt_is, mul_is, ne_is, neg_is, not_is, or_is, quotient_is, remainder_is, sign_is, sign_of, sub_is, value_is, word_below, max_turned, min_turned, xor_is}
-
--- the machine's laws that runs through lines need
-pub record Laws : Type 0 where
-  pub line : (lines : List Line) (base k : ℕ) (c : Config) (line : Line) → IsAt lines k line c
-      → next_step lines base c ≡ line_step base k (Some line) c
-  pub taken : (lines : List Line) (base k : ℕ) (c : Config) (code : Branch) (left right target : ℕ)
-      → IsAt lines k (Line.Branch code left right target) c
-      → is_taken code (register_at c.registers left) (register_at c.registers right) ≡ true
-      → next_step lines base c ≡ Goes (record c { pc = address_of target })
-  pub not_taken : (lines : List Line) (base k : ℕ) (c : Config) (code : Branch) (left right target : ℕ)
-      → IsAt lines k (Line.Branch code left right target) c
-      → is_taken code (register_at c.registers left) (register_at c.registers right) ≡ false
-      → next_step lines base c ≡ Goes (record c { pc = c.pc + 4 })
-  pub zero : (registers : List ℕ) → register_at registers 0 ≡ 0
-  pub same : (registers : List ℕ) (r value : ℕ) → 0 < r → r < length registers → register_at (with_register registers r value) r ≡ value
-  pub other : (registers : List ℕ) (r value other : ℕ) → other ≢ r
-      → register_at (with_register registers r value) other ≡ register_at registers other
-  pub len : (registers : List ℕ) (r value : ℕ) → length (with_register registers r value) ≡ length registers
-  pub none : (lines : List Line) (base : ℕ) (c : Config) → Leads lines base 0 c c []
-  pub first : (lines : List Line) (base k n : ℕ) (line : Line) (c d e : Config) (rest : List Access) → IsAt lines k line c
-      → next_step lines base c ≡ Goes d
-      → Leads lines base n d e rest → Leads lines base (n + 1) c e (touched (access_of line c.registers) ++ rest)
-  pub steps : (lines : List Line) (base m n : ℕ) (c d e : Config) (one two : List Access) → Leads lines base m c d one
-      → Leads lines base n d e two
-      → Leads lines base (m + n) c e (one ++ two)
-  pub stands : (lines : List Line) (k : ℕ) (piece : List Line) (i : ℕ) → StandsAt lines k piece → i < length piece
-      → slice_get lines (k + i) ≡ slice_get piece i
 
 -- the registers that may change
 abbrev changed : ℕ → List ℕ
@@ -74,7 +48,7 @@ last_among to = grind (arith, nat_tests)
 other_among : (to r w : ℕ) → is_among r (changed to) ≡ false → is_among w (changed to) ≡ true → r ≢ w
 other_among to r w out within same = both_ways (is_among w (changed to)) (rw same at out) within
 
-module _ (s : Laws) (lines : List Line) (base at to : ℕ) (c : Config) (count : length c.registers ≡ 32) where
+module _ (s : MachineLaws) (lines : List Line) (base at to : ℕ) (c : Config) (count : length c.registers ≡ 32) where
   begun : c.pc ≡ address_of at → Course lines base at to 0 0 c c
   begun pc = record { leads = s.none lines base c; pc = omega arith; others = record { sized = refl; same = λ r h. refl }; block = refl }
 
@@ -86,14 +60,14 @@ module _ (s : Laws) (lines : List Line) (base at to : ℕ) (c : Config) (count :
     written w v line there touches goes within =
         let e = with_result d w v in
         let is_at : IsAt lines (at + k) line d = record { at = now.pc; there = there } in
-        let step : Leads lines base 1 d e [] = rw touches at (s.first lines base (at + k) 0 line d e e [] is_at goes
+        let step : Leads lines base 1 d e [] = rw touches at (s.line lines base (at + k) 0 line d e e [] is_at goes
         (s.none lines base e)) in
         record {
           leads = s.steps lines base n 1 c d e [] [] now.leads step;
           pc = omega (arith, now.pc);
           others = record {
-            sized = s.len d.registers w v ∙ now.others.sized;
-            same = λ r out. s.other d.registers w v r (other_among to r w out within) ∙ now.others.same r out;
+            sized = s.count d.registers w v ∙ now.others.sized;
+            same = λ r out. s.unset d.registers w v r (other_among to r w out within) ∙ now.others.same r out;
           };
           block = now.block;
         }
@@ -104,7 +78,7 @@ module _ (s : Laws) (lines : List Line) (base at to : ℕ) (c : Config) (count :
     three code w l r a b v there left right is within =
         let is_at : IsAt lines (at + k) (Line.Three code w l r) d = record { at = now.pc; there = there } in
         let gives : three_value code (register_at d.registers l) (register_at d.registers r) ≡ v = rw (left, right) is in
-        let goes : next_step lines base d ≡ Goes (with_result d w v) = s.line lines base (at + k) d (Line.Three code w l r) is_at
+        let goes : next_step lines base d ≡ Goes (with_result d w v) = s.goes lines base (at + k) d (Line.Three code w l r) is_at
         ∙ ap (λ (m : ℕ). Goes (with_result d w m)) gives in
         written w v (Line.Three code w l r) there refl goes within
 
@@ -114,13 +88,13 @@ module _ (s : Laws) (lines : List Line) (base at to : ℕ) (c : Config) (count :
     immediate code w l a imm v there left is within =
         let is_at : IsAt lines (at + k) (Line.Imm code w l imm) d = record { at = now.pc; there = there } in
         let gives : immediate_value code (register_at d.registers l) imm ≡ v = rw left is in
-        let goes : next_step lines base d ≡ Goes (with_result d w v) = s.line lines base (at + k) d (Line.Imm code w l imm) is_at
+        let goes : next_step lines base d ≡ Goes (with_result d w v) = s.goes lines base (at + k) d (Line.Imm code w l imm) is_at
         ∙ ap (λ (m : ℕ). Goes (with_result d w m)) gives in
         written w v (Line.Imm code w l imm) there refl goes within
 
     -- the register that was written
     here : (w v : ℕ) → 0 < w → w < 32 → register_at (with_register d.registers w v) w ≡ v
-    here w v some below = s.same d.registers w v some (omega (arith, now.others.sized))
+    here w v some below = s.set d.registers w v some (omega (arith, now.others.sized))
 
   done : (piece : List Line) (steady : Bool) (n value : ℕ) (d : Config) → Course lines base at to n (length piece) c d → n ≤ length piece
       → (steady ≡ true → n ≡ length piece) → register_at d.registers to ≡ value → Computes lines base at piece steady to value c
@@ -136,14 +110,14 @@ module _ (s : Laws) (lines : List Line) (base at to : ℕ) (c : Config) (count :
     block = run.block;
   }
 
-module _ (s : Laws) (lines : List Line) (base at to from : ℕ) (x : ℤ) (c : Config) (count : length c.registers ≡ 32) (some : 0 < to)
+module _ (s : MachineLaws) (lines : List Line) (base at to from : ℕ) (x : ℤ) (c : Config) (count : length c.registers ≡ 32) (some : 0 < to)
     (below : to < 31) (apart : from ≢ 31) (fits : Fits64 x) (holds : register_at c.registers from ≡ wrapped x) (pc : c.pc ≡ address_of at)
   where
     pub one_computed : (o : Unary) → StandsAt lines at (one_lines o to from)
         → Computes lines base at (one_lines o to from) true to (wrapped (apply_unary o x)) c
     one_computed unary.Neg stands =
         let v = wrapped (apply_unary unary.Neg x) in
-        let there = s.stands lines at (one_lines unary.Neg to from) 0 stands (omega arith) in
+        let there = s.there lines at (one_lines unary.Neg to from) 0 stands (omega arith) in
         let start = begun s lines base at to c count pc in
         let run = three s lines base at to c count 0 0 c start Three.Sub to 0 from 0 (wrapped x) v there (s.zero c.registers) holds
         (neg_is x fits) (result_among to) in
@@ -151,7 +125,7 @@ module _ (s : Laws) (lines : List Line) (base at to from : ℕ) (x : ℤ) (c : C
         (here s lines base at to c count 0 0 c start to v some (omega arith))
     one_computed unary.Not stands =
         let v = wrapped (apply_unary unary.Not x) in
-        let there = s.stands lines at (one_lines unary.Not to from) 0 stands (omega arith) in
+        let there = s.there lines at (one_lines unary.Not to from) 0 stands (omega arith) in
         let start = begun s lines base at to c count pc in
         let run = immediate s lines base at to c count 0 0 c start Imm.Xori to from (wrapped x) (negsuc 0) v there holds (not_is x fits)
         (result_among to) in
@@ -162,7 +136,7 @@ module _ (s : Laws) (lines : List Line) (base at to from : ℕ) (x : ℤ) (c : C
         let sign = sign_of x in
         let mixed = three_value Three.Xor (wrapped x) sign in
         let v = wrapped (apply_unary unary.Abs x) in
-        let there = λ (i : ℕ) (h : i < 3). s.stands lines at piece i stands h in
+        let there = λ (i : ℕ) (h : i < 3). s.there lines at piece i stands h in
         let start = begun s lines base at to c count pc in
         let c1 = with_result c 31 sign in
         let run1 = immediate s lines base at to c count 0 0 c start Imm.Srai 31 from (wrapped x) (pos 63) sign (there 0 (omega arith)) holds
@@ -170,10 +144,10 @@ module _ (s : Laws) (lines : List Line) (base at to from : ℕ) (x : ℤ) (c : C
         let r31 = here s lines base at to c count 0 0 c start 31 sign (omega arith) (omega arith) in
         let c2 = with_result c1 30 mixed in
         let run2 = three s lines base at to c count 1 1 c1 run1 Three.Xor 30 from 31 (wrapped x) sign mixed (there 1 (omega arith))
-        (s.other c.registers 31 sign from apart ∙ holds) r31 refl (scratch_among to) in
+        (s.unset c.registers 31 sign from apart ∙ holds) r31 refl (scratch_among to) in
         let r30 = here s lines base at to c count 1 1 c1 run1 30 mixed (omega arith) (omega arith) in
         let run3 = three s lines base at to c count 2 2 c2 run2 Three.Sub to 30 31 mixed sign v (there 2 (omega arith)) r30
-        (s.other c1.registers 30 mixed 31 (λ e. omega arith) ∙ r31) (abs_is x fits) (result_among to) in
+        (s.unset c1.registers 30 mixed 31 (λ e. omega arith) ∙ r31) (abs_is x fits) (result_among to) in
         done s lines base at to c count piece true 3 v (with_result c2 to v) run3 (omega arith) (λ h. refl)
         (here s lines base at to c count 2 2 c2 run2 to v some (omega arith))
 
@@ -224,7 +198,8 @@ record Chooses (lines : List Line) (base at to n k : ℕ) (value : ℤ) (c : Con
   few : steps ≤ n + 2
   is : register_at last.registers to ≡ wrapped value
 
-module _ (s : Laws) (lines : List Line) (base at to : ℕ) (c : Config) (count : length c.registers ≡ 32) (some : 0 < to) (below : to < 31)
+module _ (s : MachineLaws) (lines : List Line) (base at to : ℕ) (c : Config) (count : length c.registers ≡ 32) (some : 0 < to)
+    (below : to < 31)
   where
     module _ (n k : ℕ) (d : Config) (now : Course lines base at to n k c d) (other : ℕ) (p q : ℤ)
         (left : register_at d.registers to ≡ wrapped p) (right : register_at d.registers other ≡ wrapped q) (l r target : ℕ)
@@ -236,7 +211,7 @@ module _ (s : Laws) (lines : List Line) (base at to : ℕ) (c : Config) (count :
           let e : Config = record d { pc = address_of target } in
           let is_at : IsAt lines (at + k) (Line.Branch Branch.Bge l r target) d = record { at = now.pc; there = test } in
           let goes = s.taken lines base (at + k) d Branch.Bge l r target is_at taken in
-          let step : Leads lines base 1 d e [] = s.first lines base (at + k) 0 (Line.Branch Branch.Bge l r target) d e e [] is_at goes
+          let step : Leads lines base 1 d e [] = s.line lines base (at + k) 0 (Line.Branch Branch.Bge l r target) d e e [] is_at goes
           (s.none lines base e) in
           let run : Course lines base at to (n + 1) (k + 2) c e = record
           { leads = s.steps lines base n 1 c d e [] [] now.leads step; pc = omega arith; others = now.others; block = now.block } in
@@ -245,7 +220,7 @@ module _ (s : Laws) (lines : List Line) (base at to : ℕ) (c : Config) (count :
           let e : Config = record d { pc = d.pc + 4 } in
           let is_at : IsAt lines (at + k) (Line.Branch Branch.Bge l r target) d = record { at = now.pc; there = test } in
           let goes = s.not_taken lines base (at + k) d Branch.Bge l r target is_at passed in
-          let step : Leads lines base 1 d e [] = s.first lines base (at + k) 0 (Line.Branch Branch.Bge l r target) d e e [] is_at goes
+          let step : Leads lines base 1 d e [] = s.line lines base (at + k) 0 (Line.Branch Branch.Bge l r target) d e e [] is_at goes
           (s.none lines base e) in
           let run1 : Course lines base at to (n + 1) (k + 1) c e = record {
             leads = s.steps lines base n 1 c d e [] [] now.leads step;
@@ -266,14 +241,14 @@ module _ (s : Laws) (lines : List Line) (base at to : ℕ) (c : Config) (count :
                 base at to c count (n + 1) (k + 1) e run1 to (wrapped q) some (omega arith);
           }
 
-module _ (s : Laws) (lines : List Line) (base at to left right : ℕ) (x y : ℤ) (c : Config) (count : length c.registers ≡ 32)
+module _ (s : MachineLaws) (lines : List Line) (base at to left right : ℕ) (x y : ℤ) (c : Config) (count : length c.registers ≡ 32)
     (some : 0 < to) (below : to < 31) (f : Fits64 x) (g : Fits64 y) (holds : register_at c.registers left ≡ wrapped x)
     (other : register_at c.registers right ≡ wrapped y) (pc : c.pc ≡ address_of at) where
   -- a line
   single : (code : Three) (steady : Bool) (v : ℕ) → three_value code (wrapped x) (wrapped y) ≡ v
       → StandsAt lines at (Line.Three code to left right ∷ []) → Computes lines base at (Line.Three code to left right ∷ []) steady to v c
   single code steady v is stands =
-      let there = s.stands lines at (Line.Three code to left right ∷ []) 0 stands (omega arith) in
+      let there = s.there lines at (Line.Three code to left right ∷ []) 0 stands (omega arith) in
       let start = begun s lines base at to c count pc in
       let run = three s lines base at to c count 0 0 c start code to left right (wrapped x) (wrapped y) v there holds other is
       (result_among to) in
@@ -288,8 +263,8 @@ module _ (s : Laws) (lines : List Line) (base at to left right : ℕ) (x y : ℤ
   tested code l r a b v holds_l holds_r is stands =
       let piece = Line.Three code 30 l r ∷ Line.Imm Imm.Sltiu to 30 (pos 1) ∷ [] in
       let u = three_value code a b in
-      let there0 = s.stands lines at piece 0 stands (omega arith) in
-      let there1 = s.stands lines at piece 1 stands (omega arith) in
+      let there0 = s.there lines at piece 0 stands (omega arith) in
+      let there1 = s.there lines at piece 1 stands (omega arith) in
       let start = begun s lines base at to c count pc in
       let run1 = three s lines base at to c count 0 0 c start code 30 l r a b u there0 holds_l holds_r refl (scratch_among to) in
       let r30 = here s lines base at to c count 0 0 c start 30 u (omega arith) (omega arith) in
@@ -304,8 +279,8 @@ module _ (s : Laws) (lines : List Line) (base at to left right : ℕ) (x y : ℤ
   differs v is stands =
       let piece = two_lines at op.Ne to left right in
       let u = three_value Three.Sub (wrapped x) (wrapped y) in
-      let there0 = s.stands lines at piece 0 stands (omega arith) in
-      let there1 = s.stands lines at piece 1 stands (omega arith) in
+      let there0 = s.there lines at piece 0 stands (omega arith) in
+      let there1 = s.there lines at piece 1 stands (omega arith) in
       let start = begun s lines base at to c count pc in
       let c1 = with_result c 30 u in
       let run1 = three s lines base at to c count 0 0 c start Three.Sub 30 left right (wrapped x) (wrapped y) u there0 holds other refl
@@ -331,7 +306,7 @@ module _ (s : Laws) (lines : List Line) (base at to left right : ℕ) (x y : ℤ
       let start = begun s lines base at to c count pc in
       let holds_to : register_at c.registers to ≡ wrapped y = rw (eqb-true to right e) other in
       let end = chooses s lines base at to c count some below 0 0 c start left y x holds_to holds _ _ (at + 2) (omega arith)
-      (s.stands lines at piece 0 stands (omega arith)) (s.stands lines at piece 1 stands (omega arith)) (keeps greater y x)
+      (s.there lines at piece 0 stands (omega arith)) (s.there lines at piece 1 stands (omega arith)) (keeps greater y x)
       (taken_is greater c.registers to left y x g f holds_to holds) in
       done s lines base at to c count piece false end.steps (wrapped value) end.last end.run end.few (λ h. absurd (false≢true h))
       (end.is ∙ ap (λ (z : ℤ). wrapped z) second)
@@ -340,20 +315,20 @@ module _ (s : Laws) (lines : List Line) (base at to left right : ℕ) (x y : ℤ
       let start = begun s lines base at to c count pc in
       let holds_to : register_at c.registers to ≡ wrapped x = rw (eqb-true to left h) holds in
       let end = chooses s lines base at to c count some below 0 0 c start right x y holds_to other _ _ (at + 0 + 2) (omega arith)
-      (s.stands lines at piece 0 stands (omega arith)) (s.stands lines at piece 1 stands (omega arith)) (keeps greater x y)
+      (s.there lines at piece 0 stands (omega arith)) (s.there lines at piece 1 stands (omega arith)) (keeps greater x y)
       (taken_is greater c.registers to right x y f g holds_to other) in
       done s lines base at to c count piece false end.steps (wrapped value) end.last end.run end.few (λ h. absurd (false≢true h))
       (end.is ∙ ap (λ (z : ℤ). wrapped z) first)
   choice greater value second first false false e h stands =
       let piece = Line.Imm Imm.Addi to left (pos 0) ∷ chosen_lines greater (at + 1) to right in
-      let there = λ (i : ℕ) (h : i < 3). s.stands lines at piece i stands h in
+      let there = λ (i : ℕ) (h : i < 3). s.there lines at piece i stands h in
       let start = begun s lines base at to c count pc in
       let c1 = with_result c to (wrapped x) in
       let run1 = immediate s lines base at to c count 0 0 c start Imm.Addi to left (wrapped x) (pos 0) (wrapped x) (there 0 (omega arith))
       holds (copied x) (result_among to) in
       let holds_to = here s lines base at to c count 0 0 c start to (wrapped x) some (omega arith) in
       let apart : right ≢ to = λ same. both_ways (to == right) e (eq-eqb to right (sym same)) in
-      let holds_right : register_at c1.registers right ≡ wrapped y = s.other c.registers to (wrapped x) right apart ∙ other in
+      let holds_right : register_at c1.registers right ≡ wrapped y = s.unset c.registers to (wrapped x) right apart ∙ other in
       let end = chooses s lines base at to c count some below 1 1 c1 run1 right x y holds_to holds_right _ _ (at + 1 + 2) (omega arith)
       (there 1 (omega arith)) (there 2 (omega arith)) (keeps greater x y)
       (taken_is greater c1.registers to right x y f g holds_to holds_right) in
@@ -383,12 +358,13 @@ module _ (s : Laws) (lines : List Line) (base at to left right : ℕ) (x y : ℤ
 
 -- ---- a copy
 
-pub copy_computed : (s : Laws) (lines : List Line) (base at to from : ℕ) (x : ℤ) (c : Config) → length c.registers ≡ 32 → 0 < to → to < 31
+pub copy_computed : (s : MachineLaws) (lines : List Line) (base at to from : ℕ) (x : ℤ) (c : Config) → length c.registers ≡ 32 → 0 < to
+    → to < 31
     → register_at c.registers from ≡ wrapped x → StandsAt lines at (Line.Imm Imm.Addi to from (pos 0) ∷ []) → c.pc ≡ address_of at
     → Computes lines base at (Line.Imm Imm.Addi to from (pos 0) ∷ []) true to (wrapped x) c
 copy_computed s lines base at to from x c count some below holds stands pc =
     let piece = Line.Imm Imm.Addi to from (pos 0) ∷ [] in
-    let there = s.stands lines at piece 0 stands (omega arith) in
+    let there = s.there lines at piece 0 stands (omega arith) in
     let start = begun s lines base at to c count pc in
     let run = immediate s lines base at to c count 0 0 c start Imm.Addi to from (wrapped x) (pos 0) (wrapped x) there holds (copied x)
     (result_among to) in

@@ -1,7 +1,7 @@
 -- What steps do where counters count down: as much as where all count up, and what runs keep.
 use Rattle.std.specs.Prelude.{◌≡◌, ℕ, zero, suc, ◌+◌, ◌-◌, ◌^◌, ◌<◌, ◌≤◌, Bool, true, false, not, ◌&&◌, ◌||◌, ℤ, pos, negsuc, ◌+ℤ◌, List, [], ◌++◌, length, int_lt, if◌then◌else◌}
 use Rattle.std.proofs.Common.{refl, ap, ap₂, sym, subst, ◌∙◌, append_assoc, arith, length-set}
-use Rattle.std.proofs.lemmas.Bool.{eqb-true, eq-eqb, false≢true, or_left, or_right, true≢false}
+use Rattle.std.proofs.lemmas.Bool.{false≢true, or_left, or_right, true≢false}
 use Rattle.std.proofs.lemmas.Int.{ints}
 use Rattle.loop_ir.specs.Fitting.{Fits64, HoldsFit, SetFits, SetsFit}
 use Rattle.loop_ir.specs.Kept.{KeepsCounters, may_set}
@@ -9,6 +9,7 @@ use Rattle.loop_ir.specs.Needed.{AreAlike, Keys, among, needed, reads, sets}
 use Rattle.loop_ir.specs.Running.{Access, Key, Register, Pointer, State, acted, counted, holding, is_key, repeated, run, with_word}
 use Rattle.loop_ir.specs.Steps.{Action, Set, Copy, One, Two, Place, Spot, Walk, Read, Write, Steps, End, Then, For, If}
 use Rattle.rv_emit.specs.Counting.{begun, gone_on, reads_of, run_counting}
+use Rattle.rv_emit.proofs.PlaceNumberLemmas.{key-is, key-same}
 
 -- ---- what one action does
 
@@ -42,19 +43,9 @@ pub not-passes : (a : Bool) → not a ≡ true → a ≡ false
 not-passes true h = absurd (false≢true h)
 not-passes false h = refl
 
-pub key-self : (key : Key) → is_key key key ≡ true
-key-self (Register number) = eq-eqb number number refl
-key-self (Pointer number) = eq-eqb number number refl
-
-pub key-same : (key other : Key) → is_key key other ≡ true → key ≡ other
-key-same (Register number) (Register other) h = ap Register (eqb-true number other h)
-key-same (Pointer number) (Pointer other) h = ap Pointer (eqb-true number other h)
-key-same (Register number) (Pointer other) h = absurd (false≢true h)
-key-same (Pointer number) (Register other) h = absurd (false≢true h)
-
 -- what a key holds that was just set, and each other key
 pub held-set : (to : Key) (number : ℤ) (state : State) → (holding to number state).held to ≡ number
-held-set to number state = ap (λ test. if test then number else state.held to) (key-self to)
+held-set to number state = ap (λ test. if test then number else state.held to) (key-same to)
 
 not-chosen : (test : Bool) (one other : ℤ) → test ≡ false → (if test then one else other) ≡ other
 not-chosen true one other h = absurd (true≢false h)
@@ -78,7 +69,7 @@ holding-alike : (down : Keys) (key : Key) (n m : ℤ) (first second : State) →
     → Alike down (holding key n first) (holding key m second)
 holding-alike down key n m first second same h = record {
   held = λ other need. chosen-same (is_key other key) n m (first.held other) (second.held other)
-      (λ is. same (not-passes (down key) (subst (λ k. not (down k) ≡ true) (key-same other key is) need)))
+      (λ is. same (not-passes (down key) (subst (λ k. not (down k) ≡ true) (key-is other key is) need)))
       (h.held other need);
   words = h.words;
   trace = h.trace;
@@ -147,7 +138,7 @@ module _ (laws : ActionLaws) where
   counting-alike down (If left below one other rest) first second unread h =
       let test = λ (state : State). int_lt (state.held (Register left)) below in
       let known = unread (Register left) (or_left (is_key (Register left) (Register left))
-      (reads_of one (Register left) || (reads_of other (Register left) || reads_of rest (Register left))) (key-self (Register left))) in
+      (reads_of one (Register left) || (reads_of other (Register left) || reads_of rest (Register left))) (key-same (Register left))) in
       let behind = λ (key : Key) (read : (reads_of one key || (reads_of other key || reads_of rest key)) ≡ true).
       unread key (or_right (is_key key (Register left)) (reads_of one key || (reads_of other key || reads_of rest key)) read) in
       let a = counting-alike down one first second

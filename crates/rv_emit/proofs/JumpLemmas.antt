@@ -15,9 +15,10 @@ use Rattle.rv_steps.specs.Good.{values_at}
 use Rattle.rv_steps.specs.Machine.{Config, Goes, IsAt, address_of, after_jump, next_step, register_at, with_register}
 use Rattle.rv_steps.specs.Pieces.{StandsAt}
 use Rattle.rv_emit.specs.Emitting.{Piece, Plan, back, is_in_reach}
+use Rattle.rv_emit.specs.MachineLaws.{MachineLaws}
 use Rattle.rv_emit.specs.Showing.{IsSetting, Shows, held_in}
 use Rattle.rv_emit.specs.Walks.{Owed}
-use Rattle.rv_emit.proofs.SimulateLemmas.{KeepsBut, Laws, Ran, block-kept, given-low, ran-then}
+use Rattle.rv_emit.proofs.SimulateLemmas.{KeepsBut, Ran, block-kept, given-low, ran-then}
 
 -- ---- what is shown where no home changes
 
@@ -66,7 +67,7 @@ pub zero-is : (registers : List ℕ) → register_at registers 0 ≡ 0
 unfolding register_at
 zero-is registers = refl
 
-module _ (laws : Laws) (lines : List Line) (base spill : ℕ) where
+module _ (laws : MachineLaws) (lines : List Line) (base spill : ℕ) where
   abbrev pub jumped-then : (m n middle to : ℕ) (c : Config) (first : Jumped lines base spill m middle c)
       → Jumped lines base spill n to first.run.last → Jumped lines base spill (m + n) to c
   jumped-then m n middle to c first second = record {

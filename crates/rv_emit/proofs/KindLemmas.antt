@@ -26,13 +26,13 @@ use Rattle.rv_emit.proofs.FormLemmas.{Admits, IsGood, NestIsGood, OpIs, OpsAre, 
 -- ---- registers
 
 -- one that a program may write and need not give back
-pub record Writes (r : ℕ) : Type 0 where
+pub record MayWrite (r : ℕ) : Type 0 where
   pub below : r < 32
   pub free : is_kept r ≡ false
 
 -- one that it may read
-abbrev pub Reads : ℕ → Type 0
-Reads r = r < 32
+abbrev pub MayRead : ℕ → Type 0
+MayRead r = r < 32
 
 -- any register, and any operator
 abbrev pub Any : ℕ → Type 0
@@ -41,10 +41,10 @@ Any r = Unit {0}
 abbrev pub AnyOp : Op → Type 0
 AnyOp code = Unit {0}
 
-given_writes : (r : ℕ) → is_given r ≡ true → Writes r
+given_writes : (r : ℕ) → is_given r ≡ true → MayWrite r
 given_writes r h = record { below = grind (arith, nat_tests); free = grind (arith, nat_tests) }
 
-scratch_writes : (r : ℕ) → 28 ≤ r → r ≤ 31 → Writes r
+scratch_writes : (r : ℕ) → 28 ≤ r → r ≤ 31 → MayWrite r
 scratch_writes r low high = record { below = omega arith; free = grind (arith, nat_tests) }
 
 -- the lines of constants
@@ -62,10 +62,10 @@ both_pass : (test : Line → Bool) (front back : List Line) → IsTrue (list_all
     → IsTrue (list_all test (front ++ back))
 both_pass test front back p q = rw (list_all-append test front back, p, q) refl
 
-writes_is_free : (r : ℕ) → Writes r → (nat_lt r 32 && not (is_kept r)) ≡ true
+writes_is_free : (r : ℕ) → MayWrite r → (nat_lt r 32 && not (is_kept r)) ≡ true
 writes_is_free r w = let below : nat_lt r 32 ≡ true = let b = w.below in grind (arith, nat_tests) in rw (below, w.free) refl
 
-pub admits_free : ConstantsFit → Admits AreFree Writes Reads AnyOp
+pub admits_free : ConstantsFit → Admits AreFree MayWrite MayRead AnyOp
 admits_free c = record {
   none = λ at. refl;
   both = λ at front back p q. both_pass is_free front back p q;
@@ -116,11 +116,11 @@ any_ops (Then action rest) = (any_op action, any_ops rest)
 any_ops (For counter turns body rest) = (any_ops body, any_ops rest)
 any_ops (If left below one other rest) = (any_ops one, (any_ops other, any_ops rest))
 
-pub ready_good : (spill : ℕ) (nests : List (Steps × Given)) → AreReady spill nests → AllByRecursion (NestIsGood Writes AnyOp spill) nests
+pub ready_good : (spill : ℕ) (nests : List (Steps × Given)) → AreReady spill nests → AllByRecursion (NestIsGood MayWrite AnyOp spill) nests
 ready_good spill [] ready = tt
 ready_good spill (nest ∷ nests) ready =
-    let own : NestIsGood Writes AnyOp spill nest = record {
-      homes = λ key. home_good Writes given_writes nest.1.spill (home_of nest.1 key) (ready.0.given.each key);
+    let own : NestIsGood MayWrite AnyOp spill nest = record {
+      homes = λ key. home_good MayWrite given_writes nest.1.spill (home_of nest.1 key) (ready.0.given.each key);
       ops = any_ops nest.0;
     } in
     (own, ready_good spill nests ready.1)
@@ -128,7 +128,7 @@ ready_good spill (nest ∷ nests) ready =
 pub lines_are_free : ConstantsFit → (nests : List (Steps × Given)) (spill : ℕ) → AreReady spill nests
     → IsTrue (list_all is_free (program spill nests 0).lines)
 lines_are_free c nests spill ready =
-    program_fine AreFree Writes Reads AnyOp (admits_free c) (λ at. refl) spill nests 0 (ready_good spill nests ready)
+    program_fine AreFree MayWrite MayRead AnyOp (admits_free c) (λ at. refl) spill nests 0 (ready_good spill nests ready)
 
 -- ---- base
 
@@ -241,7 +241,7 @@ choice_fits pieces count at left few l one other p q fits =
       ),
     )
 
-pub admits_fit : ConstantsFit → PiecesFit → (count : ℕ) → count ≤ 262143 → Admits (WouldFit count) Writes Reads AnyOp
+pub admits_fit : ConstantsFit → PiecesFit → (count : ℕ) → count ≤ 262143 → Admits (WouldFit count) MayWrite MayRead AnyOp
 admits_fit c pieces count few = record {
   none = λ at fits. tt;
   both = λ at front back p q fits.
@@ -290,6 +290,6 @@ pub lines_fit : ConstantsFit → PiecesFit → (nests : List (Steps × Given)) (
     → length (program spill nests 0).lines ≤ 262143 → FitLines (length (program spill nests 0).lines) 0 (program spill nests 0).lines
 lines_fit c pieces nests spill ready few =
     let count = length (program spill nests 0).lines in
-    program_fine (WouldFit count) Writes Reads AnyOp (admits_fit c pieces count few)
+    program_fine (WouldFit count) MayWrite MayRead AnyOp (admits_fit c pieces count few)
     (λ at fits. (record { operand = omega arith; base = omega arith; imm = small_immediate (pos 0) refl }, tt)) spill nests 0
     (ready_good spill nests ready) (omega arith)

@@ -21,7 +21,6 @@ mod OwedLemmas
 mod PlaceLemmas
 mod PlaceNumberLemmas
 mod PlaceRunLemmas
-mod PlaceShowLemmas
 mod ProgramCodeLemmas
 mod ProgramLemmas
 mod ReadLemmas
@@ -29,7 +28,7 @@ pub mod RegisterLemmas
 mod RepayLemmas
 mod SetLemmas
 mod ShiftLemmas
-pub mod ShowLemmas
+mod ShowLemmas
 mod SimulateLemmas
 mod SiteLemmas
 mod SizeLemmas

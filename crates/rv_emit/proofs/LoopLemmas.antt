@@ -21,13 +21,18 @@ use Rattle.rv_steps.specs.Registers.{is_among}
 use Rattle.rv_steps.specs.Wrapped.{wrapped}
 use Rattle.rv_emit.specs.Counting.{begun, gone_on}
 use Rattle.rv_emit.specs.Emitting.{Plan, count_by, count_lines, first_count, home_at, last_count, start_lines}
+use Rattle.rv_emit.specs.Handling.{Fetching, Putting}
+use Rattle.rv_emit.specs.MachineLaws.{MachineLaws}
 use Rattle.rv_emit.specs.Moving.{fetch_lines, put_lines, register_of, settle_lines}
 use Rattle.rv_emit.specs.Showing.{AreHomes, AreTouches, IsSetting, Shows, held_in, IsTouch}
+use Rattle.rv_emit.specs.Simulating.{Settling}
 use Rattle.rv_emit.specs.Walks.{Owed}
 use Rattle.rv_emit.proofs.CountingLemmas.{Grows}
 use Rattle.rv_emit.proofs.JumpLemmas.{shows-idle, zero-is}
-use Rattle.rv_emit.proofs.SetLemmas.{counted-on, fetched, fixed, fixed-on, put-behind, shows-set}
-use Rattle.rv_emit.proofs.SimulateLemmas.{Fetched, KeepsBut, Laws, Put, Ran, Settled, Way, home-below, home-found, home-some, keeps-from, length-of-four, length-of-three, ran-none, ran-then, way-of, way-ran, way-same, way-then}
+use Rattle.rv_emit.proofs.SetLemmas.{counted-on, fetched, fixed, fixed-on, put-behind}
+use Rattle.rv_emit.proofs.ShowLemmas.{home-there, shown-number, shows-held}
+use Rattle.rv_emit.proofs.SimulateLemmas.{KeepsBut, Ran, Way, home-below, home-some, keeps-from, length-of-four, length-of-three}
+use Rattle.rv_emit.proofs.SimulateLemmas.{ran-none, ran-then, way-of, way-ran, way-same, way-then}
 
 -- ---- what is there at each point was there at the end: a trace only grows
 
@@ -50,7 +55,7 @@ count-from-fits : (down : Bool) (turns : ℕ) → turns < 2 ^ 63 → FitsSigned 
 count-from-fits true turns few = record { sfits = omega (arith, few) }
 count-from-fits false turns few = record { sfits = omega arith }
 
-module _ (laws : Laws) (put : Put) (settle : Settled) (lines : List Line) (plan : Plan) (base : ℕ) where
+module _ (laws : MachineLaws) (put : Putting) (settle : Settling) (lines : List Line) (plan : Plan) (base : ℕ) where
   pub start-way : (at counter turns : ℕ) (owed : Owed) (keys head : Keys) (state : State) (c : Config)
       → IsSetting plan base (length state.words) → AreHomes plan.spill owed → IsSome (home_of plan.homes (Register counter))
       → SetsApart (home_of plan.homes) (Register counter ∷ []) head → turns < 2 ^ 63
@@ -60,7 +65,7 @@ module _ (laws : Laws) (put : Put) (settle : Settled) (lines : List Line) (plan 
       state (begun plan.down counter turns state) c
   start-way at counter turns owed keys head state c setting homes some apart few before shows stands pc =
       let home = home_at plan (Register counter) in
-      let there = home-found plan (Register counter) some in
+      let there = home-there plan (Register counter) some in
       let is = setting.homes (Register counter) home there in
       let r = register_of 30 home in
       let value = first_count plan counter turns in
@@ -79,14 +84,15 @@ module _ (laws : Laws) (put : Put) (settle : Settled) (lines : List Line) (plan 
       let inside : r < length d.registers = omega (arith, regs, low) in
       let fix = fixed laws lines base plan.spill middle r value d (laws.front lines middle constant puts rest)
       (home-some plan.spill 30 home (omega arith) is) inside (count-from-fits (plan.down (Register counter)) turns few) first.there in
-      let sets = put-behind laws put lines base plan.spill (length state.words) setting.aligned setting.room setting.few
+      let sets = put-behind laws put lines base plan.spill (length state.words) setting.room
       (length constant) next home (wrapped value) d first.shows.block is fix.run fix.keeps fix.holds (laws.below value)
       (laws.back lines middle constant puts rest) in
       let second : Way lines plan base (length constant + length puts) (next + length puts) true [] head state
       (holding (Register counter) value state) d =
       way-ran lines plan base (length constant + length puts) (next + length puts) [] head state (holding (Register counter) value state)
       d sets.run refl
-      (shows-set plan base counter value keys head state home d sets.run.last setting there apart before first.shows sets.changes) in
+      (shows-held plan base [] keys head state d sets.run.last (Register counter) home value (wrapped value) setting there apart before
+      first.shows sets.changes (shown-number plan base [] counter value state home)) in
       let sum : length (start_lines plan owed counter turns) ≡ length owing + (length constant + length puts) =
       length-of-three owing constant puts in
       way-same lines plan base (length owing + (length constant + length puts)) (length (start_lines plan owed counter turns))
@@ -108,7 +114,8 @@ pub record Compared (lines : List Line) (base spill n to turns : ℕ) (down : Bo
 not-last : (r : ℕ) → r < 31 → is_among r (31 ∷ []) ≡ false
 not-last r low = grind (arith, nat_tests)
 
-compared : (laws : Laws) (lines : List Line) (base spill at turns : ℕ) (down : Bool) (c : Config) → length c.registers ≡ 32 → turns < 2 ^ 63
+compared : (laws : MachineLaws) (lines : List Line) (base spill at turns : ℕ) (down : Bool) (c : Config) → length c.registers ≡ 32
+    → turns < 2 ^ 63
     → StandsAt lines at (if down then [] else constant_lines 31 (pos turns)) → c.pc ≡ address_of at
     → Compared lines base spill (length (if down then [] else constant_lines 31 (pos turns)))
     (at + length (if down then [] else constant_lines 31 (pos turns))) turns down c
@@ -152,7 +159,7 @@ pub record Counted (lines : List Line) (plan : Plan) (base n to counter turns : 
       (state.held (Register counter) +ℤ count_by plan counter)
   pub target : register_at run.last.registers (last_count plan counter) ≡ (if plan.down (Register counter) then 0 else turns)
 
-module _ (laws : Laws) (fetch : Fetched) (put : Put) (lines : List Line) (plan : Plan) (base : ℕ) where
+module _ (laws : MachineLaws) (fetch : Fetching) (put : Putting) (lines : List Line) (plan : Plan) (base : ℕ) where
   pub count-on : (at counter turns : ℕ) (head : Keys) (state : State) (c : Config)
       → IsSetting plan base (length state.words) → IsSome (home_of plan.homes (Register counter))
       → SetsApart (home_of plan.homes) (Register counter ∷ []) head → head (Register counter) ≡ true → turns < 2 ^ 63
@@ -161,7 +168,7 @@ module _ (laws : Laws) (fetch : Fetched) (put : Put) (lines : List Line) (plan :
       head state c
   count-on at counter turns head state c setting some apart known few shows stands pc =
       let home = home_at plan (Register counter) in
-      let there = home-found plan (Register counter) some in
+      let there = home-there plan (Register counter) some in
       let is = setting.homes (Register counter) home there in
       let r = register_of 30 home in
       let by = count_by plan counter in
@@ -175,7 +182,7 @@ module _ (laws : Laws) (fetch : Fetched) (put : Put) (lines : List Line) (plan :
       let a = at + length fetches in
       let rest2 = laws.back lines a add (puts ++ compare) rest in
       let rest3 = laws.back lines (a + 1) puts compare rest2 in
-      let f = fetched fetch lines base plan.spill (length state.words) at home c setting.aligned setting.room setting.few shows.block is
+      let f = fetched fetch lines base plan.spill (length state.words) at home c setting.room shows.block is
       (laws.front lines at fetches (add ++ (puts ++ compare)) stands) pc in
       let d = f.run.last in
       let low = home-below plan.spill 30 home (omega arith) is in
@@ -186,13 +193,13 @@ module _ (laws : Laws) (fetch : Fetched) (put : Put) (lines : List Line) (plan :
       (home-some plan.spill 30 home (omega arith) is) inside (count-by-small down)
       (f.holds ∙ shows.held (Register counter) home known there) f.run.there in
       let both = fixed-on laws lines base plan.spill (length fetches) 1 a (a + 1) r (held_in c home) (wrapped (held +ℤ by)) c f g in
-      let sets = put-behind laws put lines base plan.spill (length state.words) setting.aligned setting.room setting.few
+      let sets = put-behind laws put lines base plan.spill (length state.words) setting.room
       (length fetches + 1) (a + 1) home (wrapped (held +ℤ by)) c shows.block is both.run both.keeps both.holds
       (laws.below (held +ℤ by)) (laws.front lines (a + 1) puts compare rest2) in
       let e = sets.run.last in
       let next = gone_on plan.down counter state in
-      let shown = shows-set plan base counter (held +ℤ by) head head state home c e setting there apart (λ key need other. need) shows
-      sets.changes in
+      let shown = shows-held plan base [] head head state c e (Register counter) home (held +ℤ by) (wrapped (held +ℤ by)) setting there apart
+      (λ key need other. need) shows sets.changes (shown-number plan base [] counter (held +ℤ by) state home) in
       let b = a + 1 + length puts in
       let last = compared laws lines base plan.spill b turns down e shown.block.count few rest3 sets.run.there in
       let n = length fetches + 1 + length puts + length compare in

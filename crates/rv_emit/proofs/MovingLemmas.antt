@@ -1,6 +1,6 @@
 -- Lines between homes and registers: what they do.
-use Rattle.std.specs.Prelude.{◌≡◌, ◌≢◌, ℕ, ◌+◌, ◌*◌, ◌%◌, ◌^◌, ◌<◌, ◌≤◌, ◌⊎◌, true, false, ℤ, pos, ◌+ℤ◌, All, FitsSigned}
-use Rattle.std.specs.Prelude.{List, [], ◌∷◌, ◌++◌, length, Some, slice_get, nat_lt}
+use Rattle.std.specs.Prelude.{◌≡◌, ◌≢◌, ℕ, ◌+◌, ◌*◌, ◌%◌, ◌^◌, ◌<◌, ◌≤◌, true, false, pos, FitsSigned}
+use Rattle.std.specs.Prelude.{List, [], ◌∷◌, ◌++◌, length, nat_lt}
 use Rattle.std.specs.Int.{w64}
 use Rattle.std.proofs.Common.{refl, inl, inr, sym, ap, ◌∙◌, arith, length-append}
 use Rattle.std.proofs.lemmas.Bool.{cases_lt}
@@ -9,83 +9,23 @@ use Rattle.std.proofs.lemmas.Int.{ints, fits_signed_from_abs}
 use Rattle.register_map.specs.declared.home.Home.{Home}
 use Rattle.register_map.specs.declared.home.Home.TheVariants as home
 use Rattle.register_map.specs.Homes.{IsHome, is_given}
-use Rattle.rv_line.specs.Fits.{IsImmediate}
 use Rattle.rv_line.specs.declared.line.Line.{Line}
 use Rattle.rv_line.specs.declared.line.Line.TheVariants.{Three as ThreeLine, Load as LoadLine, Store as StoreLine}
 use Rattle.rv_line.specs.declared.line.Three.TheVariants.{Add}
 use Rattle.rv_line.specs.declared.line.Load.TheVariants.{Ld}
 use Rattle.rv_line.specs.declared.line.Store.TheVariants.{Sd}
-use Rattle.rv_steps.specs.Accesses.{Leads, touched}
+use Rattle.rv_steps.specs.Accesses.{Leads}
 use Rattle.rv_steps.specs.Constants.{constant_lines}
-use Rattle.rv_steps.specs.Effects.{word_of}
 use Rattle.rv_steps.specs.Good.{values_at}
-use Rattle.rv_steps.specs.Machine.{Access, Config, Goes, IsAt, Loads, Stores, access_of, address, address_of, line_step, next_step}
+use Rattle.rv_steps.specs.Machine.{Config, Goes, IsAt, Loads, Stores, address, address_of, next_step}
 use Rattle.rv_steps.specs.Machine.{register_at, value_at, with_register, with_result, with_value}
 use Rattle.rv_steps.specs.Pieces.{StandsAt}
 use Rattle.rv_steps.specs.Registers.{AgreeBut, is_among}
 use Rattle.rv_steps.specs.Wrapped.{wrapped}
 use Rattle.rv_emit.specs.Handling.{Fetches, Puts}
+use Rattle.rv_emit.specs.MachineLaws.{MachineLaws}
 use Rattle.rv_emit.specs.Moving.{fetch_lines, put_lines, reach_lines, reach_offset, reach_register, register_of}
-use Rattle.rv_emit.specs.Showing.{HasBlock, held_in, is_whole}
-
--- the laws of the machine on which all of this stands
-pub record Laws : Type 0 where
-  pub step : (lines : List Line) (base k : ℕ) (c : Config) (line : Line) → IsAt lines k line c
-      → next_step lines base c ≡ line_step base k (Some line) c
-  pub set : (registers : List ℕ) (r value : ℕ) → 0 < r → r < length registers → register_at (with_register registers r value) r ≡ value
-  pub unset : (registers : List ℕ) (r value other : ℕ) → other ≢ r
-      → register_at (with_register registers r value) other ≡ register_at registers other
-  pub count : (registers : List ℕ) (r value : ℕ) → length (with_register registers r value) ≡ length registers
-  pub word : (block : List ℕ) (place value : ℕ) → place + 8 ≤ length block → value < 2 ^ 64
-      → value_at w64 (with_value w64 block place value) place ≡ value
-  pub other_word : (block : List ℕ) (i j value : ℕ) → 8 * i + 8 ≤ length block → i ≢ j
-      → value_at w64 (with_value w64 block (8 * i) value) (8 * j) ≡ value_at w64 block (8 * j)
-  pub sized : (block : List ℕ) (place value : ℕ) → place + 8 ≤ length block → length (with_value w64 block place value) ≡ length block
-  pub bytes : (block : List ℕ) (place value : ℕ) → All (λ b. b < 256) block → All (λ b. b < 256) (with_value w64 block place value)
-  pub none : (lines : List Line) (base : ℕ) (c : Config) → Leads lines base 0 c c []
-  pub line : (lines : List Line) (base k n : ℕ) (line : Line) (c d e : Config) (rest : List Access) → IsAt lines k line c
-      → next_step lines base c ≡ Goes d → Leads lines base n d e rest
-      → Leads lines base (n + 1) c e (touched (access_of line c.registers) ++ rest)
-  pub steps : (lines : List Line) (base m n : ℕ) (c d e : Config) (one two : List Access) → Leads lines base m c d one
-      → Leads lines base n d e two → Leads lines base (m + n) c e (one ++ two)
-  pub there : (lines : List Line) (k : ℕ) (piece : List Line) (i : ℕ) → StandsAt lines k piece
-      → i < length piece → slice_get lines (k + i) ≡ slice_get piece i
-  pub front : (lines : List Line) (k : ℕ) (front back : List Line) → StandsAt lines k (front ++ back) → StandsAt lines k front
-  pub back : (lines : List Line) (k : ℕ) (front back : List Line) → StandsAt lines k (front ++ back)
-      → StandsAt lines (k + length front) back
-  pub outside : (block : List ℕ) (word count place value : ℕ) → 8 * place + 8 ≤ length block
-      → (place < word) ⊎ (word + count ≤ place)
-      → values_at (with_value w64 block (8 * place) value) word count ≡ values_at block word count
-  pub load : (lines : List Line) (base k : ℕ) (c : Config) (to : ℕ) (imm : ℤ) (pointer place : ℕ)
-      → IsAt lines k (LoadLine Ld to imm pointer) c → base % 8 ≡ 0
-      → address c.registers pointer imm ≡ base + 8 * place → 8 * place + 8 ≤ length c.block
-      → next_step lines base c ≡ Goes (with_result c to (value_at w64 c.block (8 * place)))
-  pub store : (lines : List Line) (base k : ℕ) (c : Config) (from : ℕ) (imm : ℤ) (pointer place : ℕ)
-      → IsAt lines k (StoreLine Sd from imm pointer) c → base % 8 ≡ 0
-      → address c.registers pointer imm ≡ base + 8 * place → 8 * place + 8 ≤ length c.block
-      → next_step lines base c ≡ Goes (record c {
-        pc = c.pc + 4;
-        block = with_value w64 c.block (8 * place) (register_at c.registers from);
-      })
-  pub natural : (n : ℕ) → n < 2 ^ 64 → wrapped (pos n) ≡ n
-  pub signed : (z : ℤ) → FitsSigned w64 z → word_of z ≡ wrapped z
-  pub below : (z : ℤ) → wrapped z < 2 ^ 64
-  pub sum : (x y : ℤ) → (wrapped x + wrapped y) % 2 ^ 64 ≡ wrapped (x +ℤ y)
-  pub place : (registers : List ℕ) (r : ℕ) (z imm : ℤ) (base place : ℕ) → register_at registers r ≡ wrapped z
-      → IsImmediate imm → z +ℤ imm ≡ pos (base + place) → base + place < 2 ^ 64
-      → address registers r imm ≡ base + place
-  pub constant : (lines : List Line) (base k to : ℕ) (value : ℤ) (c : Config)
-      → StandsAt lines k (constant_lines to value) → 0 < to → to < length c.registers → FitsSigned w64 value
-      → c.pc ≡ address_of k
-      → Leads lines base (length (constant_lines to value)) c (record {
-        registers = with_register c.registers to (word_of value);
-        pc = address_of (k + length (constant_lines to value));
-        block = c.block;
-      }) []
-  pub agree : (changed registers : List ℕ) → AgreeBut changed registers registers
-  pub agree_one : (registers : List ℕ) (r value : ℕ) → AgreeBut (r ∷ []) registers (with_register registers r value)
-  pub agree_again : (changed before between after : List ℕ) → AgreeBut changed before between → AgreeBut changed between after
-      → AgreeBut changed before after
+use Rattle.rv_emit.specs.Showing.{HasBlock, HasRoom, held_in, is_whole}
 
 -- ---- registers that are not among a few
 
@@ -114,11 +54,11 @@ pub record Reaching (lines : List Line) (base at word : ℕ) (c : Config) : Type
   pub others : AgreeBut (31 ∷ []) c.registers last.registers
   pub block : last.block ≡ c.block
 
-module _ (laws : Laws) (lines : List Line) (base spill words : ℕ) (eights : base % 8 ≡ 0)
-    (room : base + 8 * (spill + words) ≤ 2 ^ 64) (few : spill ≤ 134217728) where
+module _ (laws : MachineLaws) (lines : List Line) (base spill words : ℕ) (room : HasRoom base spill words) where
   reach-near : (at word : ℕ) (c : Config) → HasBlock base spill words c → word < spill → nat_lt word 256 ≡ true → word < 256
       → c.pc ≡ address_of at → Reaching lines base at word c
   reach-near at word c block within near less pc =
+      let bound = room.within in
       let holds : register_at c.registers 10 ≡ wrapped (pos base) = block.block_at ∙ sym (laws.natural base (omega arith)) in
       let points : address c.registers 10 (pos (8 * word)) ≡ base + 8 * word =
       laws.place c.registers 10 (pos base) (pos (8 * word)) base (8 * word) holds
@@ -136,6 +76,8 @@ module _ (laws : Laws) (lines : List Line) (base spill words : ℕ) (eights : ba
       → StandsAt lines at (constant_lines 31 (pos (8 * word)) ++ ThreeLine Add 31 31 10 ∷ []) → c.pc ≡ address_of at
       → Reaching lines base at word c
   reach-far at word c block within far stands pc =
+      let bound = room.within in
+      let few = room.few in
       let constant = constant_lines 31 (pos (8 * word)) in
       let n = length constant in
       let add : Line = ThreeLine Add 31 31 10 in
@@ -153,7 +95,7 @@ module _ (laws : Laws) (lines : List Line) (base spill words : ℕ) (eights : ba
       let right : register_at d.registers 10 ≡ base = laws.unset c.registers 31 (8 * word) 10 (omega arith) ∙ block.block_at in
       let sum : (8 * word + base) % 2 ^ 64 ≡ base + 8 * word = omega arith in
       let e = with_result d 31 (base + 8 * word) in
-      let goes : next_step lines base d ≡ Goes e = laws.step lines base (at + n + 0) d add at1 ∙ rw (left, right, sum) refl in
+      let goes : next_step lines base d ≡ Goes e = laws.goes lines base (at + n + 0) d add at1 ∙ rw (left, right, sum) refl in
       let second = laws.line lines base (at + n + 0) 0 add d e e [] at1 goes (laws.none lines base e) in
       let whole = laws.steps lines base n 1 c d e [] [] first second in
       let len : length (constant ++ add ∷ []) ≡ n + 1 = length-append constant (add ∷ []) in
@@ -184,7 +126,7 @@ module _ (laws : Laws) (lines : List Line) (base spill words : ℕ) (eights : ba
 
   -- the load or store of a spill word
   spill-whole : (word : ℕ) → word < spill → is_whole base spill (base + 8 * word) 8 ≡ true
-  spill-whole word within = grind (arith, nat_tests)
+  spill-whole word within = let eights = room.aligned in let bound = room.within in grind (arith, nat_tests)
 
   -- ---- a home is fetched
 
@@ -213,7 +155,7 @@ module _ (laws : Laws) (lines : List Line) (base spill words : ℕ) (eights : ba
       let inside : 8 * word + 8 ≤ length d.block = rw near.block (omega (arith, block.sized)) in
       let e = with_result d scratch (value_at w64 d.block (8 * word)) in
       let goes : next_step lines base d ≡ Goes e =
-      laws.load lines base (at + m + 0) d scratch (reach_offset word) (reach_register word) word at1 eights near.place inside in
+      laws.load lines base (at + m + 0) d scratch (reach_offset word) (reach_register word) word at1 room.aligned near.place inside in
       let chain = laws.line lines base (at + m + 0) 0 load d e e [] at1 goes (laws.none lines base e) in
       let access : Leads lines base 1 d e (Loads (base + 8 * word) 8 ∷ []) = rw near.place at chain in
       let whole = laws.steps lines base m 1 c d e [] (Loads (base + 8 * word) 8 ∷ []) near.leads access in
@@ -279,7 +221,7 @@ module _ (laws : Laws) (lines : List Line) (base spill words : ℕ) (eights : ba
       let inside : 8 * word + 8 ≤ length d.block = rw near.block (omega (arith, block.sized)) in
       let e : Config = record { registers = d.registers; pc = d.pc + 4; block = with_value w64 d.block (8 * word) v } in
       let goes : next_step lines base d ≡ Goes e =
-      laws.store lines base (at + m + 0) d 30 (reach_offset word) (reach_register word) word at1 eights near.place inside in
+      laws.store lines base (at + m + 0) d 30 (reach_offset word) (reach_register word) word at1 room.aligned near.place inside in
       let chain = laws.line lines base (at + m + 0) 0 store d e e [] at1 goes (laws.none lines base e) in
       let access : Leads lines base 1 d e (Stores (base + 8 * word) 8 ∷ []) = rw near.place at chain in
       let whole = laws.steps lines base m 1 c d e [] (Stores (base + 8 * word) 8 ∷ []) near.leads access in
@@ -296,8 +238,8 @@ module _ (laws : Laws) (lines : List Line) (base spill words : ℕ) (eights : ba
         changes = record {
           block = record {
             count = near.others.sized ∙ block.count;
-            bytes = laws.bytes d.block (8 * word) v (rw near.block block.bytes);
-            sized = laws.sized d.block (8 * word) v inside ∙ ap length near.block ∙ block.sized;
+            bytes = laws.bytes w64 d.block (8 * word) v (rw near.block block.bytes);
+            sized = laws.sized w64 d.block (8 * word) v inside ∙ ap length near.block ∙ block.sized;
             block_at = near.others.same 10 refl ∙ block.block_at;
           };
           here = laws.word d.block (8 * word) v inside (rw kept small) ∙ kept;

@@ -1,12 +1,11 @@
 -- What homes owe is repaid.
-use Rattle.std.specs.Prelude.{◌≡◌, ◌≢◌, ℕ, ◌+◌, ◌*◌, ◌%◌, ◌^◌, ◌<◌, ◌≤◌, Bool, true, false, not, ℤ, pos, negsuc, ◌+ℤ◌, ◌*ℤ◌, FitsSigned}
-use Rattle.std.specs.Prelude.{List, [], ◌∷◌, ◌++◌, length, unsigned_abs}
-use Rattle.std.specs.Int.{cast_signed, int_rem_euclid, int_wrap, w64}
+use Rattle.std.specs.Prelude.{◌≡◌, ◌≢◌, ℕ, ◌+◌, ◌*◌, ◌%◌, ◌^◌, ◌<◌, ◌≤◌, Bool, true, false, ℤ, pos, ◌+ℤ◌, ◌*ℤ◌, FitsSigned}
+use Rattle.std.specs.Prelude.{List, [], ◌∷◌, ◌++◌, length}
+use Rattle.std.specs.Int.{w64}
 use Rattle.std.specs.Ordering.{int_eq}
 use Rattle.std.proofs.Common.{refl, sym, ap, ◌∙◌, arith, length-append}
 use Rattle.std.proofs.lemmas.Bool.Decides.{nat_tests}
-use Rattle.std.proofs.lemmas.Int.{SFits-int_wrap, ints}
-use Rattle.std.proofs.lemmas.List.Elements.{filter-append}
+use Rattle.std.proofs.lemmas.Int.{ints}
 use Rattle.register_map.specs.declared.home.Home.{Home}
 use Rattle.register_map.specs.declared.home.Home.TheVariants as home
 use Rattle.register_map.specs.Homes.{IsHome}
@@ -23,33 +22,22 @@ use Rattle.rv_steps.specs.Pieces.{StandsAt}
 use Rattle.rv_steps.specs.Registers.{AgreeBut}
 use Rattle.rv_steps.specs.Wrapped.{wrapped}
 use Rattle.rv_emit.specs.Handling.{Runs}
+use Rattle.rv_emit.specs.MachineLaws.{MachineLaws}
 use Rattle.rv_emit.specs.Moving.{advance_lines, fetch_lines, put_lines, register_of, repay_lines}
-use Rattle.rv_emit.specs.Showing.{AreInOrder, HasBlock, held_in, is_spill}
+use Rattle.rv_emit.specs.Showing.{HasBlock, HasRoom, held_in}
 use Rattle.rv_emit.specs.Walks.{bytes}
-use Rattle.rv_emit.proofs.MovingLemmas.{Laws, apart_from_two, fetch, given_apart, given_most, put, two_apart}
+use Rattle.rv_emit.proofs.MovingLemmas.{apart_from_two, fetch, given_apart, given_most, put, two_apart}
+use Rattle.rv_emit.proofs.PlaceNumberLemmas.{bytes-fit, wrapped-bytes}
+use Rattle.rv_emit.proofs.SimulateLemmas.{in-order}
 
 -- ---- numbers of bytes
 
-cast-back : (n : ℕ) → n < 2 ^ 64 → word_of (cast_signed w64 n) ≡ n
-cast-back n small = grind (arith, ints)
-
-rest-wrapped : (z : ℤ) → unsigned_abs (int_rem_euclid z (pos (2 ^ 64))) ≡ wrapped z
-rest-wrapped (pos n) = refl
-rest-wrapped (negsuc n) = omega arith
-
 -- the word of so many bytes
-pub bytes-word : (laws : Laws) (words : ℤ) → word_of (bytes words) ≡ wrapped (pos 8 *ℤ words)
-unfolding int_wrap
-bytes-word laws words =
-    let z = pos 8 *ℤ words in
-    let same = rest-wrapped z in
-    ap (λ rest. word_of (cast_signed w64 rest)) same ∙ cast-back (wrapped z) (laws.below z)
-
-bytes-fit : (words : ℤ) → FitsSigned w64 (bytes words)
-bytes-fit words = SFits-int_wrap w64 (pos 8 *ℤ words)
+bytes-word : (laws : MachineLaws) (words : ℤ) → word_of (bytes words) ≡ wrapped (pos 8 *ℤ words)
+bytes-word laws words = laws.signed (bytes words) (bytes-fit words) ∙ wrapped-bytes words
 
 -- a word that goes on by so many bytes
-advanced : (laws : Laws) (held words : ℤ) (before now : ℕ) → before ≡ wrapped held → now ≡ (before + word_of (bytes words)) % 2 ^ 64
+advanced : (laws : MachineLaws) (held words : ℤ) (before now : ℕ) → before ≡ wrapped held → now ≡ (before + word_of (bytes words)) % 2 ^ 64
     → now ≡ wrapped (held +ℤ pos 8 *ℤ words)
 advanced laws held words before now from same =
     let by = bytes-word laws words in
@@ -101,7 +89,7 @@ pub record Advancing (lines : List Line) (base at register : ℕ) (count : ℤ) 
   pub others : AgreeBut (register ∷ 31 ∷ []) c.registers last.registers
   pub block : last.block ≡ c.block
 
-module _ (laws : Laws) (lines : List Line) (base : ℕ) where
+module _ (laws : MachineLaws) (lines : List Line) (base : ℕ) where
   advance-near : (at register : ℕ) (count : ℤ) (c : Config) → is_signed_below 2048 count ≡ true → 0 < register → register < 31
       → length c.registers ≡ 32 → StandsAt lines at (ImmLine Addi register register count ∷ []) → c.pc ≡ address_of at
       → Advancing lines base at register count c
@@ -110,7 +98,7 @@ module _ (laws : Laws) (lines : List Line) (base : ℕ) where
       let v = (register_at c.registers register + word_of count) % 2 ^ 64 in
       let e = with_result c register v in
       let at1 : IsAt lines (at + 0) add c = record { at = omega arith; there = laws.there lines at (add ∷ []) 0 stands (omega arith) } in
-      let goes : next_step lines base c ≡ Goes e = laws.step lines base (at + 0) c add at1 in
+      let goes : next_step lines base c ≡ Goes e = laws.goes lines base (at + 0) c add at1 in
       let chain = laws.line lines base (at + 0) 0 add c e e [] at1 goes (laws.none lines base e) in
       record {
         last = e;
@@ -145,7 +133,7 @@ module _ (laws : Laws) (lines : List Line) (base : ℕ) where
       laws.unset c.registers 31 (word_of count) register (omega arith) in
       let right : register_at d.registers 31 ≡ word_of count = laws.set c.registers 31 (word_of count) (omega arith) (omega arith) in
       let e = with_result d register v in
-      let goes : next_step lines base d ≡ Goes e = laws.step lines base (at + n + 0) d add at1 ∙ rw (left, right) refl in
+      let goes : next_step lines base d ≡ Goes e = laws.goes lines base (at + n + 0) d add at1 ∙ rw (left, right) refl in
       let second = laws.line lines base (at + n + 0) 0 add d e e [] at1 goes (laws.none lines base e) in
       let whole = laws.steps lines base n 1 c d e [] [] first second in
       let len : length (constant ++ add ∷ []) ≡ n + 1 = length-append constant (add ∷ []) in
@@ -180,20 +168,15 @@ module _ (laws : Laws) (lines : List Line) (base : ℕ) where
 
 -- ---- pieces one behind another
 
-pub leads-then : (laws : Laws) (lines : List Line) (base : ℕ) (one two : List Line) (c d e : Config) (xs ys : List Access)
+pub leads-then : (laws : MachineLaws) (lines : List Line) (base : ℕ) (one two : List Line) (c d e : Config) (xs ys : List Access)
     → Leads lines base (length one) c d xs → Leads lines base (length two) d e ys → Leads lines base (length (one ++ two)) c e (xs ++ ys)
 leads-then laws lines base one two c d e xs ys first second =
     let len = length-append one two in
     rw len (laws.steps lines base (length one) (length two) c d e xs ys first second)
 
-pub order-then : (base spill : ℕ) (xs ys : List Access) → AreInOrder base spill xs [] → AreInOrder base spill ys []
-    → AreInOrder base spill (xs ++ ys) []
-order-then base spill xs ys first second =
-    rw (filter-append (λ access. not (is_spill base spill access)) xs ys, first, second) refl
-
 -- ---- a home repays
 
-pub record Repaying (lines : List Line) (base spill words at : ℕ) (to : Home) (owed : ℤ) (c : Config) : Type 0 where
+pub record Repaid (lines : List Line) (base spill words at : ℕ) (to : Home) (owed : ℤ) (c : Config) : Type 0 where
   pub run : Runs lines base spill at (repay_lines to owed) c
   pub block : HasBlock base spill words run.last
   pub here : (held : ℤ) → held_in c to ≡ wrapped held → held_in run.last to ≡ wrapped (held +ℤ pos 8 *ℤ owed)
@@ -203,10 +186,9 @@ pub record Repaying (lines : List Line) (base spill words at : ℕ) (to : Home) 
 int-eq-zero : (z : ℤ) → int_eq z (pos 0) ≡ true → z ≡ pos 0
 int-eq-zero z h = grind (arith, ints)
 
-module _ (laws : Laws) (lines : List Line) (base spill words : ℕ) (eights : base % 8 ≡ 0)
-    (room : base + 8 * (spill + words) ≤ 2 ^ 64) (few : spill ≤ 134217728) where
+module _ (laws : MachineLaws) (lines : List Line) (base spill words : ℕ) (room : HasRoom base spill words) where
   repay-none : (at : ℕ) (to : Home) (owed : ℤ) (c : Config) → HasBlock base spill words c → int_eq owed (pos 0) ≡ true
-      → c.pc ≡ address_of at → Repaying lines base spill words at to owed c
+      → c.pc ≡ address_of at → Repaid lines base spill words at to owed c
   repay-none at to owed c block e pc =
       let zero : owed ≡ pos 0 = int-eq-zero owed e in
       record {
@@ -219,7 +201,7 @@ module _ (laws : Laws) (lines : List Line) (base spill words : ℕ) (eights : ba
 
   repay-some : (at : ℕ) (to : Home) (owed : ℤ) (c : Config) → HasBlock base spill words c → IsHome spill to → int_eq owed (pos 0) ≡ false
       → StandsAt lines at (fetch_lines 30 to ++ (advance_lines (register_of 30 to) (bytes owed) ++ put_lines to)) → c.pc ≡ address_of at
-      → Repaying lines base spill words at to owed c
+      → Repaid lines base spill words at to owed c
   repay-some at to owed c block there e stands pc =
       let r = register_of 30 to in
       let most = register-most spill to there in
@@ -227,7 +209,7 @@ module _ (laws : Laws) (lines : List Line) (base spill words : ℕ) (eights : ba
       let two = advance_lines r (bytes owed) in
       let three = put_lines to in
       let behind = laws.back lines at one (two ++ three) stands in
-      let f = fetch laws lines base spill words eights room few at 30 to c block there (omega arith) (omega arith)
+      let f = fetch laws lines base spill words room at 30 to c block there (omega arith) (omega arith)
       (laws.front lines at one (two ++ three) stands) pc in
       let d1 = f.run.last in
       let block1 = block-kept base spill words 30 c d1 (omega arith) block f.others f.block in
@@ -237,7 +219,7 @@ module _ (laws : Laws) (lines : List Line) (base spill words : ℕ) (eights : ba
       let apart10 : r ≢ 10 = register-block spill to there in
       let block2 = block-kept base spill words r d1 d2 apart10 block1 a.others a.block in
       let small : register_at d2.registers r < 2 ^ 64 = rw a.here (omega arith) in
-      let p = put laws lines base spill words eights room few (at + length one + length two) to d2 block2 there
+      let p = put laws lines base spill words room (at + length one + length two) to d2 block2 there
       (laws.back lines (at + length one) two three behind) a.behind small in
       let d3 = p.run.last in
       let chain = leads-then laws lines base one (two ++ three) c d1 d3 f.run.accesses p.run.accesses f.run.leads
@@ -251,7 +233,7 @@ module _ (laws : Laws) (lines : List Line) (base spill words : ℕ) (eights : ba
           accesses = f.run.accesses ++ p.run.accesses;
           leads = rw e chain;
           behind = rw (e, len) on;
-          in_order = order-then base spill f.run.accesses p.run.accesses f.run.in_order p.run.in_order;
+          in_order = in-order base spill f.run.accesses p.run.accesses [] [] f.run.in_order p.run.in_order;
         };
         block = p.changes.block;
         here = λ held h.
@@ -268,10 +250,10 @@ module _ (laws : Laws) (lines : List Line) (base spill words : ℕ) (eights : ba
       register-block spill (home.Spill word) there e = omega (arith, e)
 
   repay-by : (b : Bool) (at : ℕ) (to : Home) (owed : ℤ) (c : Config) → int_eq owed (pos 0) ≡ b → HasBlock base spill words c
-      → IsHome spill to → StandsAt lines at (repay_lines to owed) → c.pc ≡ address_of at → Repaying lines base spill words at to owed c
+      → IsHome spill to → StandsAt lines at (repay_lines to owed) → c.pc ≡ address_of at → Repaid lines base spill words at to owed c
   repay-by true at to owed c e block there stands pc = repay-none at to owed c block e pc
   repay-by false at to owed c e block there stands pc = repay-some at to owed c block there e (rw e at stands) pc
 
   pub repay : (at : ℕ) (to : Home) (owed : ℤ) (c : Config) → HasBlock base spill words c → IsHome spill to
-      → StandsAt lines at (repay_lines to owed) → c.pc ≡ address_of at → Repaying lines base spill words at to owed c
+      → StandsAt lines at (repay_lines to owed) → c.pc ≡ address_of at → Repaid lines base spill words at to owed c
   repay at to owed c = repay-by (int_eq owed (pos 0)) at to owed c refl

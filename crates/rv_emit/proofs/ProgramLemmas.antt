@@ -1,70 +1,44 @@
 -- The lines of nests, one after another, end with the words to which the nests lead.
-use Rattle.std.specs.Prelude.{◌≡◌, ℕ, ◌+◌, ◌*◌, ◌/◌, ◌%◌, ◌^◌, ◌<◌, ◌≤◌, Bool, true, false, not, pos, List, [], ◌∷◌, ◌++◌, length, slice_get, IsSome, IsTrue, Some}
+use Rattle.std.specs.Prelude.{◌≡◌, ℕ, ◌+◌, ◌*◌, ◌/◌, ◌%◌, ◌^◌, ◌≤◌, Bool, true, false, not, pos, List, [], ◌∷◌, ◌++◌, length, IsTrue}
 use Rattle.std.specs.List.{AllByRecursion, list_all}
 use Rattle.std.proofs.Common.{refl, ap, ap₂, sym, subst, ◌∙◌, append_assoc, append-nil, arith}
 use Rattle.std.proofs.lemmas.Bool.{and_parts, false≢true}
+use Rattle.shapes_core.specs.Limits.{most_items, most_words}
 use Rattle.loop_ir.specs.Fitting.{HoldsFit, SetsFit}
-use Rattle.loop_ir.specs.Kept.{EachNamed, KeepsCounters}
+use Rattle.loop_ir.specs.Kept.{KeepsCounters}
 use Rattle.loop_ir.specs.Needed.{AreAlike, Keys, needed, none}
 use Rattle.loop_ir.specs.Running.{Access as Touch, Key, State, run}
 use Rattle.loop_ir.specs.Steps.{Steps}
 use Rattle.register_map.specs.declared.home.Home.{Home}
 use Rattle.register_map.specs.declared.home.Home.TheVariants as home
-use Rattle.register_map.specs.Fits.{Fits}
-use Rattle.register_map.specs.Homes.{Given, IsHome, home_of}
+use Rattle.register_map.specs.Homes.{Given, IsHome}
 use Rattle.rv_line.specs.declared.line.Line.{Line}
 use Rattle.rv_line.specs.declared.line.Line.TheVariants.{Jalr}
-use Rattle.rv_steps.specs.Accesses.{Leads, touched}
-use Rattle.rv_steps.specs.Good.{is_kept, values_at}
+use Rattle.rv_steps.specs.Accesses.{Leads}
+use Rattle.rv_steps.specs.Good.{values_at}
 use Rattle.rv_steps.specs.Kinds.{is_free}
-use Rattle.rv_steps.specs.Machine.{Access, Config, Goes, IsAt, access_of, address, address_of, after_jump, line_step, next_step, register_at}
+use Rattle.rv_steps.specs.Machine.{Access, Config, Goes, IsAt, address, address_of, after_jump, next_step, register_at}
 use Rattle.rv_steps.specs.Pieces.{StandsAt}
-use Rattle.rv_steps.specs.Stops.{Reaches}
 use Rattle.rv_emit.specs.Counting.{counts_down, reads_of, run_counting}
 use Rattle.rv_emit.specs.Emitting.{Plan, emitted, owed_after, plan_of, program}
-use Rattle.rv_emit.specs.Showing.{AreHomes, AreInOrder, AreTouches, HasBlock, IsSetting, IsTouch, Shows}
-use Rattle.rv_emit.specs.Simulating.{AreReady, IsReady, Performs, Simulates, TestsFit, are_steady, is_steady, run_each}
-use Rattle.rv_emit.specs.Walks.{Owed}
+use Rattle.rv_emit.specs.MachineLaws.{MachineLaws}
+use Rattle.rv_emit.specs.Showing.{AreInOrder, AreTouches, HasBlock, IsSetting, IsTouch, Shows}
+use Rattle.rv_emit.specs.Simulating.{AreReady, IsReady, Performs, Simulates, StepsSimulate, are_steady, is_steady, run_each}
 use Rattle.rv_emit.proofs.CountingLemmas.{Grows, grows-on}
 use Rattle.rv_emit.proofs.LoopLemmas.{touched-before}
 use Rattle.rv_emit.proofs.SimulateLemmas.{in-order}
 
 -- ---- the laws on which programs stand
 
-abbrev pub StepsSimulated : Type 0
-StepsSimulated = (lines : List Line) (plan : Plan) (base at : ℕ) (owed : Owed) (steps : Steps) (keys : Keys) (state : State) (c : Config)
-    → IsSetting plan base (length state.words) → AreHomes plan.spill owed
-    → EachNamed (λ key. IsSome (home_of plan.homes key)) steps → Fits (home_of plan.homes) steps keys
-    → KeepsCounters steps → SetsFit steps → TestsFit steps → HoldsFit state → Shows plan base owed (needed steps keys) state c
-    → StandsAt lines at (emitted plan owed steps at).lines → c.pc ≡ address_of at
-    → AreTouches (length state.words) (run_counting plan.down steps state)
-    → Simulates lines plan base at (emitted plan owed steps at) (is_steady steps) (owed_after plan owed steps) keys
-    state (run_counting plan.down steps state) c
-
 pub record ProgramLaws : Type 0 where
-  pub simulated : StepsSimulated
+  pub machine : MachineLaws
+  pub simulated : StepsSimulate
   pub unread : (down : Keys) (steps : Steps) (first second : State) → ((key : Key) → reads_of steps key ≡ true → down key ≡ false)
       → AreAlike (λ key. not (down key)) first second
       → AreAlike (λ key. not (down key)) (run steps first) (run_counting down steps second)
   pub many : (down : Keys) (steps : Steps) (state : State) → length (run_counting down steps state).words ≡ length state.words
   pub fits : (steps : Steps) (state : State) → KeepsCounters steps → SetsFit steps → HoldsFit state → HoldsFit (run steps state)
   pub grow : (steps : Steps) (state : State) → Grows state (run steps state)
-  pub kept : (lines : List Line) (base n : ℕ) (c d : Config) (r : ℕ) → IsTrue (list_all is_free lines)
-      → Reaches lines base n c d → IsTrue (is_kept r) → register_at d.registers r ≡ register_at c.registers r
-  pub none : (lines : List Line) (base : ℕ) (c : Config) → Leads lines base 0 c c []
-  pub line : (lines : List Line) (base k n : ℕ) (line : Line) (c d e : Config) (rest : List Access) → IsAt lines k line c
-      → next_step lines base c ≡ Goes d → Leads lines base n d e rest
-      → Leads lines base (n + 1) c e (touched (access_of line c.registers) ++ rest)
-  pub steps : (lines : List Line) (base m n : ℕ) (c d e : Config) (one two : List Access) → Leads lines base m c d one
-      → Leads lines base n d e two → Leads lines base (m + n) c e (one ++ two)
-  pub goes : (lines : List Line) (base k : ℕ) (c : Config) (line : Line) → IsAt lines k line c
-      → next_step lines base c ≡ line_step base k (Some line) c
-  pub there : (lines : List Line) (k : ℕ) (piece : List Line) (i : ℕ) → StandsAt lines k piece
-      → i < length piece → slice_get lines (k + i) ≡ slice_get piece i
-  pub front : (lines : List Line) (k : ℕ) (front back : List Line) → StandsAt lines k (front ++ back) → StandsAt lines k front
-  pub back : (lines : List Line) (k : ℕ) (front back : List Line) → StandsAt lines k (front ++ back)
-      → StandsAt lines (k + length front) back
-  pub stands : (front piece back : List Line) → StandsAt (front ++ (piece ++ back)) (length front) piece
 
 -- ---- nests one after another
 
@@ -82,7 +56,7 @@ pub record Going (lines : List Line) (base spill most : ℕ) (steady : Bool) (be
   pub trace : after.trace ≡ touches ++ before.trace
   pub in_order : AreInOrder base spill accesses touches
 
-even-address : (n : ℕ) → n ≤ 2 ^ 30 → (65536 + 4 * n + 0) % 2 ^ 64 / 2 * 2 ≡ 65536 + 4 * n
+even-address : (n : ℕ) → n ≤ most_items → (65536 + 4 * n + 0) % 2 ^ 64 / 2 * 2 ≡ 65536 + 4 * n
 even-address n few = omega arith
 
 home-wider : (less spill : ℕ) (home : Home) → less ≤ spill → IsHome less home → IsHome spill home
@@ -115,8 +89,8 @@ counted-alike : (laws : ProgramLaws) (steps : Steps) (state : State)
 counted-alike laws steps state =
     laws.unread (counts_down steps) steps state state (λ key read. ap not read) (alike-self (λ key. not (counts_down steps key)) state)
 
-module _ (laws : ProgramLaws) (lines : List Line) (base spill : ℕ) (eights : base % 8 ≡ 0) (few : spill ≤ 134217728)
-    (free : IsTrue (list_all is_free lines)) (short : length lines ≤ 2 ^ 30) where
+module _ (laws : ProgramLaws) (lines : List Line) (base spill : ℕ) (eights : base % 8 ≡ 0) (few : spill ≤ most_words)
+    (free : IsTrue (list_all is_free lines)) (short : length lines ≤ most_items) where
   returns-way : (at : ℕ) (state : State) (c : Config) → values_at c.block spill (length state.words) ≡ state.words
       → StandsAt lines at (Jalr 0 (pos 0) 1 ∷ []) → c.pc ≡ address_of at → register_at c.registers 1 ≡ address_of (length lines)
       → Going lines base spill 1 true state state c
@@ -124,14 +98,14 @@ module _ (laws : ProgramLaws) (lines : List Line) (base spill : ℕ) (eights : b
       let line : Line = Jalr 0 (pos 0) 1 in
       let d = after_jump c 0 (address c.registers 1 (pos 0) / 2 * 2) in
       let is : IsAt lines (at + 0) line c =
-      record { at = pc ∙ omega arith; there = laws.there lines at (line ∷ []) 0 stands (omega arith) } in
-      let goes : next_step lines base c ≡ Goes d = laws.goes lines base (at + 0) c line is in
+      record { at = pc ∙ omega arith; there = laws.machine.there lines at (line ∷ []) 0 stands (omega arith) } in
+      let goes : next_step lines base c ≡ Goes d = laws.machine.goes lines base (at + 0) c line is in
       record {
         steps = 1;
         last = d;
         accesses = [];
         touches = [];
-        leads = laws.line lines base (at + 0) 0 line c d d [] is goes (laws.none lines base d);
+        leads = laws.machine.line lines base (at + 0) 0 line c d d [] is goes (laws.machine.none lines base d);
         few = omega arith;
         exact = λ yes. refl;
         at_end = ap (λ n. (n + 0) % 2 ^ 64 / 2 * 2) back ∙ even-address (length lines) short;
@@ -160,9 +134,7 @@ module _ (laws : ProgramLaws) (lines : List Line) (base spill : ℕ) (eights : b
       let alike = counted-alike laws steps state in
       let after = run_each nests mid in
       let setting : IsSetting plan base count = record {
-        aligned = eights;
-        room = room;
-        few = few;
+        room = record { aligned = eights; within = room; few = few };
         homes = λ key home there. home-wider nest.1.spill spill home own.within (own.given.each key home there);
       } in
       let inner : AreTouches count mid = touched-before count mid after (each-grows laws nests mid) touches in
@@ -170,8 +142,8 @@ module _ (laws : ProgramLaws) (lines : List Line) (base spill : ℕ) (eights : b
       subst (λ trace. AllByRecursion (IsTouch count) trace) alike.trace inner in
       let first : Simulates lines plan base at piece (is_steady steps) (owed_after plan [] steps) none state counting c =
       laws.simulated lines plan base at [] steps none state c setting tt own.fit.there own.fit.fits own.counters own.sets own.tests fit
-      (nothing-needed plan base (needed steps none) state c own.free block words) (laws.front lines at piece.lines more.lines stands) pc
-      same in
+      (nothing-needed plan base (needed steps none) state c own.free block words)
+      (laws.machine.front lines at piece.lines more.lines stands) pc same in
       let d = first.last in
       let still : length mid.words ≡ count = ap length alike.words ∙ laws.many (counts_down steps) steps state in
       let held : HasBlock base spill (length mid.words) d =
@@ -181,8 +153,8 @@ module _ (laws : ProgramLaws) (lines : List Line) (base spill : ℕ) (eights : b
       let second : Going lines base spill more.steps (are_steady nests) mid after d =
       nests-go nests next mid d (subst (λ n. base + 8 * (spill + n) ≤ 2 ^ 64) (sym still) room) ready.1
       (laws.fits steps state own.counters own.sets fit)
-      held holds (laws.back lines at piece.lines more.lines stands) first.behind
-      (laws.kept lines base first.steps c d 1 free first.leads.reaches refl ∙ back)
+      held holds (laws.machine.back lines at piece.lines more.lines stands) first.behind
+      (laws.machine.kept lines base first.steps c d 1 free first.leads.reaches refl ∙ back)
       (subst (λ n. AreTouches n after) (sym still) touches) in
       let less : first.steps ≤ piece.steps = first.few in
       let fewer : second.steps ≤ more.steps = second.few in
@@ -191,7 +163,8 @@ module _ (laws : ProgramLaws) (lines : List Line) (base spill : ℕ) (eights : b
         last = second.last;
         accesses = first.accesses ++ second.accesses;
         touches = second.touches ++ first.touches;
-        leads = laws.steps lines base first.steps second.steps c d second.last first.accesses second.accesses first.leads second.leads;
+        leads = laws.machine.steps lines base first.steps second.steps c d second.last first.accesses second.accesses first.leads
+            second.leads;
         few = omega (arith, less, fewer);
         exact = λ yes.
             let parts = and_parts (is_steady steps) (are_steady nests) yes in
@@ -213,21 +186,21 @@ module _ (laws : ProgramLaws) (lines : List Line) (base spill : ℕ) (eights : b
     few = going.few;
     exact = going.exact;
     words = going.words;
-    kept = λ r h. laws.kept lines base going.steps c going.last r free going.leads.reaches h;
+    kept = λ r h. laws.machine.kept lines base going.steps c going.last r free going.leads.reaches h;
     trace = going.trace;
     in_order = subst (λ accesses. AreInOrder base spill accesses going.touches) (sym going.leads.in_order) going.in_order;
   }
 
 whole-stands : (laws : ProgramLaws) (piece : List Line) → StandsAt piece 0 piece
-whole-stands laws piece = subst (λ lines. StandsAt lines 0 piece) (append-nil piece) (laws.stands [] piece [])
+whole-stands laws piece = subst (λ lines. StandsAt lines 0 piece) (append-nil piece) (laws.machine.stands [] piece [])
 
 pub programs-performed : (laws : ProgramLaws)
     → ((nests : List (Steps × Given)) (spill : ℕ) → AreReady spill nests → IsTrue (list_all is_free (program spill nests 0).lines))
     → (lines : List Line) (nests : List (Steps × Given)) (base spill : ℕ) (state : State) (c : Config)
-    → base % 8 ≡ 0 → base + 8 * (spill + length state.words) ≤ 2 ^ 64 → spill ≤ 134217728
+    → base % 8 ≡ 0 → base + 8 * (spill + length state.words) ≤ 2 ^ 64 → spill ≤ most_words
     → AreReady spill nests → HoldsFit state → HasBlock base spill (length state.words) c
     → values_at c.block spill (length state.words) ≡ state.words
-    → lines ≡ (program spill nests 0).lines → length lines ≤ 2 ^ 30
+    → lines ≡ (program spill nests 0).lines → length lines ≤ most_items
     → c.pc ≡ address_of 0 → register_at c.registers 1 ≡ address_of (length lines)
     → AreTouches (length state.words) (run_each nests state)
     → Performs lines base spill (program spill nests 0).steps (are_steady nests) state (run_each nests state) c

@@ -1,17 +1,16 @@
 -- Lines that set the home of a key: what is read is fetched, the number is computed into a register, and that is put into the home.
-use Rattle.std.proofs.Common.{◌≡◌, ◌≢◌, ℕ, ◌+◌, ◌*◌, ◌%◌, ◌^◌, ◌<◌, ◌≤◌, Bool, true, false, not, ◌&&◌, ◌||◌, ℤ, pos, ◌+ℤ◌, ◌-ℤ◌, ◌*ℤ◌, List, [], ◌∷◌, ◌++◌, length, refl, sym, ap, subst, ◌∙◌, arith, length-append}
+use Rattle.std.proofs.Common.{◌≡◌, ◌≢◌, ℕ, ◌+◌, ◌*◌, ◌^◌, ◌<◌, ◌≤◌, Bool, true, false, not, ◌&&◌, ◌||◌, ℤ, pos, List, [], ◌∷◌, ◌++◌, length, refl, sym, ap, subst, ◌∙◌, arith, length-append}
 use Rattle.std.proofs.lemmas.Bool.{both_ways, eq-eqb, eqb-true, false_from_ne_true}
 use Rattle.std.proofs.lemmas.Bool.Decides.{nat_tests}
 use Rattle.std.proofs.lemmas.List.{append_assoc}
-use Rattle.std.proofs.lemmas.List.Elements.{filter-append}
 use Rattle.std.specs.Int.{w64}
-use Rattle.std.specs.Prelude.{FitsSigned, IsSome, ◌==◌}
+use Rattle.std.specs.Prelude.{IsSome, ◌==◌}
 use Rattle.moa_tree.specs.Operators.{apply, apply_unary}
 use Rattle.moa_tree.specs.declared.operator.Op.{Op}
 use Rattle.moa_tree.specs.declared.operator.Unary.{Unary}
 use Rattle.loop_ir.specs.Fitting.{Fits64}
 use Rattle.loop_ir.specs.Needed.{Keys, among, needed}
-use Rattle.loop_ir.specs.Running.{Key, Pointer, Register, State, holding, is_key}
+use Rattle.loop_ir.specs.Running.{Key, Register, State, holding, is_key}
 use Rattle.loop_ir.specs.Steps.{Copy, End, One, Set, Then, Two}
 use Rattle.register_map.specs.Fits.{SetsApart}
 use Rattle.register_map.specs.Homes.{IsHome, home_of, is_given}
@@ -29,47 +28,17 @@ use Rattle.rv_steps.specs.Registers.{AgreeBut, is_among}
 use Rattle.rv_steps.specs.Wrapped.{wrapped}
 use Rattle.rv_emit.specs.Computing.{one_lines, two_lines}
 use Rattle.rv_emit.specs.Emitting.{Plan, home_at, straight, with_one}
-use Rattle.rv_emit.specs.Handling.{Changes, Fetches, Puts}
+use Rattle.rv_emit.specs.Handling.{Changes, Fetching, Putting}
+use Rattle.rv_emit.specs.MachineLaws.{MachineLaws}
 use Rattle.rv_emit.specs.Moving.{fetch_lines, put_lines, register_of}
-use Rattle.rv_emit.specs.Showing.{AreInOrder, HasBlock, IsSetting, Shows, held_in, is_spill, shown}
+use Rattle.rv_emit.specs.Showing.{AreInOrder, HasBlock, HasRoom, IsSetting, Shows, held_in, shown}
 use Rattle.rv_emit.specs.Simulating.{ActionSimulates, Computes, Simulates, is_steady_op}
-use Rattle.rv_emit.specs.Walks.{Owed, owed_at, without}
-use Rattle.rv_emit.proofs.ComputingLemmas.{Laws, copy_computed, one_computed, two_computed}
-use Rattle.rv_emit.proofs.OperatorLemmas.{word_below, word_is}
-use Rattle.rv_emit.proofs.ShowLemmas.{home_there, key_itself, shows_set}
-
--- ---- what is proved elsewhere
-
-abbrev pub Fetching : Type 0
-Fetching = (lines : List Line) (base spill words at scratch : ℕ) (home : Home) (c : Config)
-    → base % 8 ≡ 0 → base + 8 * (spill + words) ≤ 2 ^ 64 → spill ≤ 134217728 → HasBlock base spill words c → IsHome spill home
-    → 28 ≤ scratch → scratch ≤ 30 → StandsAt lines at (fetch_lines scratch home) → c.pc ≡ address_of at
-    → Fetches lines base spill at scratch home c
-
-abbrev pub Putting : Type 0
-Putting = (lines : List Line) (base spill words at : ℕ) (home : Home) (c : Config)
-    → base % 8 ≡ 0 → base + 8 * (spill + words) ≤ 2 ^ 64 → spill ≤ 134217728 → HasBlock base spill words c → IsHome spill home
-    → StandsAt lines at (put_lines home) → c.pc ≡ address_of at → register_at c.registers (register_of 30 home) < 2 ^ 64
-    → Puts lines base spill words at home c
-
--- chains follow one another, and pieces stand where the piece stands of which they are parts
-pub record Chains : Type 0 where
-  pub steps : (lines : List Line) (base m n : ℕ) (c d e : Config) (one two : List Access) → Leads lines base m c d one
-      → Leads lines base n d e two
-      → Leads lines base (m + n) c e (one ++ two)
-  pub front : (lines : List Line) (k : ℕ) (front back : List Line) → StandsAt lines k (front ++ back) → StandsAt lines k front
-  pub back : (lines : List Line) (k : ℕ) (front back : List Line) → StandsAt lines k (front ++ back)
-      → StandsAt lines (k + length front) back
-
--- what the lines of a constant do
-abbrev pub Setting : Type 0
-Setting = (lines : List Line) (base k to : ℕ) (value : ℤ) (c : Config)
-    → StandsAt lines k (constant_lines to value) → 0 < to → to < length c.registers → FitsSigned w64 value → c.pc ≡ address_of k
-    → Leads lines base (length (constant_lines to value)) c (record {
-      registers = with_register c.registers to (word_of value);
-      pc = address_of (k + length (constant_lines to value));
-      block = c.block;
-    }) []
+use Rattle.rv_emit.specs.Walks.{Owed, without}
+use Rattle.rv_emit.proofs.ComputingLemmas.{copy_computed, one_computed, two_computed}
+use Rattle.rv_emit.proofs.OperatorLemmas.{word_is}
+use Rattle.rv_emit.proofs.PlaceNumberLemmas.{key-same}
+use Rattle.rv_emit.proofs.ShowLemmas.{home-there, shown-below, shown-number, shows-held}
+use Rattle.rv_emit.proofs.SimulateLemmas.{in-order}
 
 -- ---- registers that may change within a step
 
@@ -80,17 +49,10 @@ free = 28 ∷ 29 ∷ 30 ∷ 31 ∷ []
 abbrev pub touched_by : Home → List ℕ
 touched_by to = register_of 30 to ∷ free
 
--- agreement but at more registers, and twice
+-- agreement but at more registers
 pub agree_more : (one two before after : List ℕ) → ((r : ℕ) → is_among r two ≡ false → is_among r one ≡ false) → AgreeBut one before after
     → AgreeBut two before after
 agree_more one two before after fewer agree = record { sized = agree.sized; same = λ r out. agree.same r (fewer r out) }
-
-pub agree_then : (changed one two three : List ℕ) → AgreeBut changed one two → AgreeBut changed two three → AgreeBut changed one three
-agree_then changed one two three first second = record {
-  sized = second.sized ∙ first.sized;
-  same = λ r out. second.same r out
-      ∙ first.same r out;
-}
 
 -- a register that is given is none of those that are free, and not that of the block
 pub given_apart : (number : ℕ) → is_given number ≡ true → is_among number free ≡ false
@@ -156,11 +118,6 @@ changes_from base spill words to value c d e is agree same changes = record {
   areas = changes.areas ∙ ap (λ (block : List ℕ). values_at block spill words) same;
 }
 
--- loads and stores of spill words alone, twice
-pub in_order_then : (base spill : ℕ) (one two : List Access) → AreInOrder base spill one [] → AreInOrder base spill two []
-    → AreInOrder base spill (one ++ two) []
-in_order_then base spill one two first second = filter-append (λ access. not (is_spill base spill access)) one two ∙ rw (first, second) refl
-
 -- ---- lines in front of the put
 
 -- they give the number in the register from which the home is put
@@ -178,14 +135,8 @@ pub record Prepares (lines : List Line) (base spill at : ℕ) (front : List Line
   pub others : AgreeBut (touched_by to) c.registers last.registers
   pub block : last.block ≡ c.block
 
--- what a home must hold is a word
-shown_below : (plan : Plan) (base : ℕ) (owed : Owed) (state : State) (key : Key) (to : Home) → shown plan base owed state key to < 2 ^ 64
-shown_below plan base owed state (Register name) to = word_below (state.held (Register name))
-shown_below plan base owed state (Pointer name) to = word_below
-    (pos base +ℤ pos 8 *ℤ (pos plan.spill +ℤ (state.held (Pointer name) -ℤ owed_at owed to)))
-
 -- then the home of the key is set
-module _ (chains : Chains) (putting : Putting) (lines : List Line) (plan : Plan) (base at : ℕ) (owed : Owed) (before keys : Keys)
+module _ (s : MachineLaws) (putting : Putting) (lines : List Line) (plan : Plan) (base at : ℕ) (owed : Owed) (before keys : Keys)
     (state : State) (c : Config) (set : Key) (number : ℤ) (setting : IsSetting plan base (length state.words))
     (there : IsSome (home_of plan.homes set)) (needs : (key : Key) → keys key ≡ true → is_key key set ≡ false → before key ≡ true)
     (apart : SetsApart (home_of plan.homes) (set ∷ []) keys) (shows : Shows plan base owed before state c) (front : List Line)
@@ -197,16 +148,16 @@ module _ (chains : Chains) (putting : Putting) (lines : List Line) (plan : Plan)
   put_behind stands =
       let to = home_at plan set in
       let words = length state.words in
-      let at_home = home_there plan set there in
+      let at_home = home-there plan set there in
       let is = setting.homes set to at_home in
       let value = shown plan base (without owed to) (holding set number state) set to in
       let d = prepared.last in
       let block = block_kept (touched_by to) base plan.spill words c d (block_apart plan.spill to is) prepared.others prepared.block
       shows.block in
       let below : register_at d.registers (register_of 30 to) < 2 ^ 64 = rw prepared.here
-      (shown_below plan base (without owed to) (holding set number state) set to) in
-      let puts = putting lines base plan.spill words (at + length front) to d setting.aligned setting.room setting.few block is
-      (chains.back lines at front (put_lines to) stands) prepared.behind below in
+      (shown-below plan base (without owed to) (holding set number state) set to) in
+      let puts = putting lines base plan.spill words (at + length front) to d setting.room block is
+      (s.back lines at front (put_lines to) stands) prepared.behind below in
       let e = puts.run.last in
       let put : Changes base plan.spill words to value d e = rw prepared.here at puts.changes in
       let changes = changes_from base plan.spill words to value c d e is prepared.others prepared.block put in
@@ -216,30 +167,27 @@ module _ (chains : Chains) (putting : Putting) (lines : List Line) (plan : Plan)
         last = e;
         accesses = prepared.accesses ++ puts.run.accesses;
         touches = [];
-        leads = chains.steps lines base prepared.steps (length (put_lines to)) c d e prepared.accesses puts.run.accesses prepared.leads
+        leads = s.steps lines base prepared.steps (length (put_lines to)) c d e prepared.accesses puts.run.accesses prepared.leads
             puts.run.leads;
         few = omega (arith, count, prepared.few);
         exact = λ h. let k = prepared.exact h in omega (arith, count, k);
         behind = puts.run.behind ∙ omega (arith, count);
-        shows = shows_set plan base owed before keys state c e set to number value at_home setting.homes needs apart shows changes refl;
+        shows = shows-held plan base owed before keys state c e set to number value setting at_home apart needs shows changes
+            refl;
         trace = refl;
-        in_order = in_order_then base plan.spill prepared.accesses puts.run.accesses prepared.in_order puts.run.in_order;
+        in_order = in-order base plan.spill prepared.accesses puts.run.accesses [] [] prepared.in_order puts.run.in_order;
       }
 
 -- ---- a number
-
-shown_register : (plan : Plan) (base : ℕ) (owed : Owed) (name : ℕ) (number : ℤ) (state : State) (to : Home)
-    → wrapped number ≡ shown plan base owed (holding (Register name) number state) (Register name) to
-shown_register plan base owed name number state to = rw (key_itself (Register name)) refl
 
 first_apart : (changed : List ℕ) (r other : ℕ) → is_among other (r ∷ changed) ≡ false → other ≢ r
 first_apart changed r other out same = both_ways (is_among r (r ∷ changed)) (subst (λ (x : ℕ). is_among x (r ∷ changed) ≡ false) same out)
     (rw (eq-eqb r r refl) refl)
 
-pub constant_prepares : (s : Laws) (constant : Setting) (lines : List Line) (base spill at : ℕ) (to : Home) (value : ℤ) (c : Config)
+pub constant_prepares : (s : MachineLaws) (lines : List Line) (base spill at : ℕ) (to : Home) (value : ℤ) (c : Config)
     → length c.registers ≡ 32 → IsHome spill to → Fits64 value → StandsAt lines at (constant_lines (register_of 30 to) value)
     → c.pc ≡ address_of at → Prepares lines base spill at (constant_lines (register_of 30 to) value) true to (wrapped value) c
-constant_prepares s constant lines base spill at to value c count is fits stands pc =
+constant_prepares s lines base spill at to value c count is fits stands pc =
     let r = register_of 30 to in
     let some = register_some spill 30 to is (omega arith) in
     let below = register_below spill 30 to is (omega arith) in
@@ -252,15 +200,15 @@ constant_prepares s constant lines base spill at to value c count is fits stands
         block = c.block;
       };
       accesses = [];
-      leads = constant lines base at r value c stands some there fits pc;
+      leads = s.constant lines base at r value c stands some there fits pc;
       few = omega arith;
       exact = λ h. refl;
       behind = refl;
       in_order = refl;
-      here = s.same c.registers r (word_of value) some there ∙ sym (word_is value fits);
+      here = s.set c.registers r (word_of value) some there ∙ sym (word_is value fits);
       others = record {
-        sized = s.len c.registers r (word_of value);
-        same = λ other out. s.other c.registers r (word_of value) other
+        sized = s.count c.registers r (word_of value);
+        same = λ other out. s.unset c.registers r (word_of value) other
             (first_apart free r other out);
       };
       block = refl;
@@ -305,12 +253,12 @@ result_out to r out = grind (arith, nat_tests)
 free_of : (to : Home) (r : ℕ) → is_among r (touched_by to) ≡ false → is_among r free ≡ false
 free_of to r out = grind (arith, nat_tests)
 
-module _ (chains : Chains) (fetching : Fetching) (lines : List Line) (base spill words at : ℕ) (c : Config) (aligned : base % 8 ≡ 0)
-    (room : base + 8 * (spill + words) ≤ 2 ^ 64) (few : spill ≤ 134217728) (has : HasBlock base spill words c) (pc : c.pc ≡ address_of at)
+module _ (s : MachineLaws) (fetching : Fetching) (lines : List Line) (base spill words at : ℕ) (c : Config) (room : HasRoom base spill words)
+    (has : HasBlock base spill words c) (pc : c.pc ≡ address_of at)
   where
     pub brings_one : (from : Home) → IsHome spill from → StandsAt lines at (fetch_lines 28 from) → BringsOne lines base spill at from c
     brings_one from is stands =
-        let fetch = fetching lines base spill words at 28 from c aligned room few has is (omega arith) (omega arith) stands pc in
+        let fetch = fetching lines base spill words at 28 from c room has is (omega arith) (omega arith) stands pc in
         record {
           brings = record {
             last = fetch.run.last;
@@ -330,17 +278,17 @@ module _ (chains : Chains) (fetching : Fetching) (lines : List Line) (base spill
     brings_two left right is_left is_right stands =
         let one = fetch_lines 28 left in
         let two = fetch_lines 29 right in
-        let fetch1 = fetching lines base spill words at 28 left c aligned room few has is_left (omega arith) (omega arith)
-        (chains.front lines at one two stands) pc in
+        let fetch1 = fetching lines base spill words at 28 left c room has is_left (omega arith) (omega arith)
+        (s.front lines at one two stands) pc in
         let d = fetch1.run.last in
         let has_d = block_kept (28 ∷ 31 ∷ []) base spill words c d refl fetch1.others fetch1.block has in
-        let fetch2 = fetching lines base spill words (at + length one) 29 right d aligned room few has_d is_right (omega arith)
-        (omega arith) (chains.back lines at one two stands) fetch1.run.behind in
+        let fetch2 = fetching lines base spill words (at + length one) 29 right d room has_d is_right (omega arith)
+        (omega arith) (s.back lines at one two stands) fetch1.run.behind in
         let e = fetch2.run.last in
         let still = held_still (28 ∷ 31 ∷ []) spill c d right is_right (λ number given same. given_out number given) fetch1.others
         fetch1.block in
         let count = length-append one two in
-        let all = chains.steps lines base (length one) (length two) c d e fetch1.run.accesses fetch2.run.accesses fetch1.run.leads
+        let all = s.steps lines base (length one) (length two) c d e fetch1.run.accesses fetch2.run.accesses fetch1.run.leads
         fetch2.run.leads in
         record {
           brings = record {
@@ -348,8 +296,8 @@ module _ (chains : Chains) (fetching : Fetching) (lines : List Line) (base spill
             accesses = fetch1.run.accesses ++ fetch2.run.accesses;
             leads = rw (← count) at all;
             behind = fetch2.run.behind ∙ omega (arith, count);
-            in_order = in_order_then base spill fetch1.run.accesses fetch2.run.accesses fetch1.run.in_order fetch2.run.in_order;
-            others = agree_then free c.registers d.registers e.registers
+            in_order = in-order base spill fetch1.run.accesses fetch2.run.accesses [] [] fetch1.run.in_order fetch2.run.in_order;
+            others = s.agree_again free c.registers d.registers e.registers
                 (agree_more (28 ∷ 31 ∷ []) free c.registers d.registers (λ r out. free_out 28 r (omega arith) (omega arith) out)
                 fetch1.others)
                 (agree_more (29 ∷ 31 ∷ []) free d.registers e.registers (λ r out. free_out 29 r (omega arith) (omega arith) out)
@@ -372,13 +320,13 @@ module _ (chains : Chains) (fetching : Fetching) (lines : List Line) (base spill
           steps = length front + computes.steps;
           last = e;
           accesses = brings.accesses ++ [];
-          leads = chains.steps lines base (length front) computes.steps c d e brings.accesses [] brings.leads computes.leads;
+          leads = s.steps lines base (length front) computes.steps c d e brings.accesses [] brings.leads computes.leads;
           few = omega (arith, count, computes.few);
           exact = λ h. let k = computes.exact h in omega (arith, count, k);
           behind = computes.behind ∙ omega (arith, count);
-          in_order = in_order_then base spill brings.accesses [] brings.in_order refl;
+          in_order = in-order base spill brings.accesses [] [] [] brings.in_order refl;
           here = computes.here;
-          others = agree_then (touched_by to) c.registers d.registers e.registers
+          others = s.agree_again (touched_by to) c.registers d.registers e.registers
               (agree_more free (touched_by to) c.registers d.registers (free_of to) brings.others)
               (agree_more (register_of 30 to ∷ 30 ∷ 31 ∷ []) (touched_by to) d.registers e.registers (result_out to) computes.others);
           block = computes.block ∙ brings.block;
@@ -393,27 +341,27 @@ needs_more false kept set h k = rw (h, k) refl
 
 -- so is what it reads
 first_read : (name : ℕ) (others : List Key) (rest : Bool) → (among (Register name ∷ others) (Register name) || rest) ≡ true
-first_read name others rest = rw (key_itself (Register name)) refl
+first_read name others rest = rw (key-same (Register name)) refl
 
 second_read : (key : Key) (name : ℕ) (rest : Bool) → (among (key ∷ Register name ∷ []) (Register name) || rest) ≡ true
 second_read key name rest = at_test (is_key (Register name) key)
   where
     at_test : (b : Bool) → ((b || (is_key (Register name) (Register name) || false)) || rest) ≡ true
     at_test true = refl
-    at_test false = rw (key_itself (Register name)) refl
+    at_test false = rw (key-same (Register name)) refl
 
-module _ (s : Laws) (chains : Chains) (constant : Setting) (fetching : Fetching) (putting : Putting) where
+module _ (s : MachineLaws) (fetching : Fetching) (putting : Putting) where
   pub set_simulates : (to : ℕ) (value : ℤ) → ActionSimulates (Set to value)
   set_simulates to value lines plan base at owed keys state c setting holds fits homes there keys_apart apart shows stands pc touches =
       let key = Register to in
       let home = home_at plan key in
-      let is = setting.homes key home (home_there plan key there.0) in
+      let is = setting.homes key home (home-there plan key there.0) in
       let front = constant_lines (register_of 30 home) value in
-      let prepared = constant_prepares s constant lines base plan.spill at home value c shows.block.count is fits
-      (chains.front lines at front (put_lines home) stands) pc in
+      let prepared = constant_prepares s lines base plan.spill at home value c shows.block.count is fits
+      (s.front lines at front (put_lines home) stands) pc in
       let shown = subst (λ (v : ℕ). Prepares lines base plan.spill at front true home v c)
-      (shown_register plan base (without owed home) to value state home) prepared in
-      put_behind chains putting lines plan base at owed (needed (Then (Set to value) End) keys) keys state c key value setting there.0
+      (shown-number plan base (without owed home) to value state home) prepared in
+      put_behind s putting lines plan base at owed (needed (Then (Set to value) End) keys) keys state c key value setting there.0
       (λ other needed apart. needs_more false (keys other) (is_key other key) needed apart) apart shows front true shown stands
 
   -- one operand
@@ -433,29 +381,29 @@ module _ (s : Laws) (chains : Chains) (constant : Setting) (fetching : Fetching)
         let home = home_at plan (Register to) in
         let source = home_at plan (Register from) in
         let words = length state.words in
-        let at_source = home_there plan (Register from) there_from in
-        let is = setting.homes (Register to) home (home_there plan (Register to) there_to) in
+        let at_source = home-there plan (Register from) there_from in
+        let is = setting.homes (Register to) home (home-there plan (Register to) there_to) in
         let is_source = setting.homes (Register from) source at_source in
         let r = register_of 30 home in
         let l = register_of 28 source in
         let front = fetch_lines 28 source in
         let piece = compute r l in
         let put = put_lines home in
-        let brought = brings_one chains fetching lines base plan.spill words at c setting.aligned setting.room setting.few shows.block pc
-        source is_source (chains.front lines at front (piece ++ put) stands) in
+        let brought = brings_one s fetching lines base plan.spill words at c setting.room shows.block pc
+        source is_source (s.front lines at front (piece ++ put) stands) in
         let d = brought.brings.last in
         let held = brought.value ∙ shows.held (Register from) source read at_source in
-        let behind = chains.back lines at front (piece ++ put) stands in
+        let behind = s.back lines at front (piece ++ put) stands in
         let computed = computes (at + length front) r l d (brought.brings.others.sized ∙ shows.block.count)
         (register_some plan.spill 30 home is (omega arith)) (register_below plan.spill 30 home is (omega arith))
         (register_apart plan.spill 28 source 31 is_source (λ e. omega arith) (omega arith)) held
-        (chains.front lines (at + length front) piece put behind) brought.brings.behind in
-        let prepared = computed_behind chains fetching lines base plan.spill words at c setting.aligned setting.room setting.few
+        (s.front lines (at + length front) piece put behind) brought.brings.behind in
+        let prepared = computed_behind s fetching lines base plan.spill words at c setting.room
         shows.block pc front piece true home (wrapped value) brought.brings computed in
         let shown = subst (λ (v : ℕ). Prepares lines base plan.spill at (front ++ piece) true home v c)
-        (shown_register plan base (without owed home) to value state home) prepared in
+        (shown-number plan base (without owed home) to value state home) prepared in
         let joined : (front ++ piece) ++ put ≡ front ++ (piece ++ put) = append_assoc front piece put in
-        let whole = put_behind chains putting lines plan base at owed before keys state c (Register to) value setting there_to needs apart
+        let whole = put_behind s putting lines plan base at owed before keys state c (Register to) value setting there_to needs apart
         shows (front ++ piece) true shown (subst (λ (lines_of : List Line). StandsAt lines at lines_of) (sym joined) stands) in
         subst (λ (lines_of : List Line). Simulates lines plan base at (straight lines_of) true (without owed home) keys state
         (holding (Register to) value state) c) joined whole
@@ -493,9 +441,9 @@ module _ (s : Laws) (chains : Chains) (constant : Setting) (fetching : Fetching)
       let home = home_at plan (Register to) in
       let one = home_at plan (Register left) in
       let other = home_at plan (Register right) in
-      let at_one = home_there plan (Register left) there.1.0 in
-      let at_other = home_there plan (Register right) there.1.1.0 in
-      let is = setting.homes (Register to) home (home_there plan (Register to) there.0) in
+      let at_one = home-there plan (Register left) there.1.0 in
+      let at_other = home-there plan (Register right) there.1.1.0 in
+      let is = setting.homes (Register to) home (home-there plan (Register to) there.0) in
       let is_one = setting.homes (Register left) one at_one in
       let is_other = setting.homes (Register right) other at_other in
       let rest = λ (key : Key). keys key && not (among (Register to ∷ []) key) in
@@ -504,23 +452,23 @@ module _ (s : Laws) (chains : Chains) (constant : Setting) (fetching : Fetching)
       let k = at + length front in
       let piece = two_lines k o r (register_of 28 one) (register_of 29 other) in
       let put = put_lines home in
-      let brought = brings_two chains fetching lines base plan.spill words at c setting.aligned setting.room setting.few shows.block pc
-      one other is_one is_other (chains.front lines at front (piece ++ put) stands) in
+      let brought = brings_two s fetching lines base plan.spill words at c setting.room shows.block pc
+      one other is_one is_other (s.front lines at front (piece ++ put) stands) in
       let d = brought.brings.last in
       let held_one = brought.first ∙ shows.held (Register left) one (first_read left (Register right ∷ []) (rest (Register left))) at_one in
       let held_other = brought.second ∙ shows.held (Register right) other (second_read (Register left) right (rest (Register right)))
       at_other in
-      let behind = chains.back lines at front (piece ++ put) stands in
+      let behind = s.back lines at front (piece ++ put) stands in
       let computed = two_computed s lines base k r (register_of 28 one) (register_of 29 other) x y d
       (brought.brings.others.sized ∙ shows.block.count) (register_some plan.spill 30 home is (omega arith))
       (register_below plan.spill 30 home is (omega arith)) (holds.registers left) (holds.registers right) held_one held_other
-      brought.brings.behind o (chains.front lines k piece put behind) in
-      let prepared = computed_behind chains fetching lines base plan.spill words at c setting.aligned setting.room setting.few shows.block
+      brought.brings.behind o (s.front lines k piece put behind) in
+      let prepared = computed_behind s fetching lines base plan.spill words at c setting.room shows.block
       pc front piece steady home (wrapped value) brought.brings computed in
       let shown = subst (λ (v : ℕ). Prepares lines base plan.spill at (front ++ piece) steady home v c)
-      (shown_register plan base (without owed home) to value state home) prepared in
+      (shown-number plan base (without owed home) to value state home) prepared in
       let joined : (front ++ piece) ++ put ≡ front ++ (piece ++ put) = append_assoc front piece put in
-      let whole = put_behind chains putting lines plan base at owed before keys state c (Register to) value setting there.0
+      let whole = put_behind s putting lines plan base at owed before keys state c (Register to) value setting there.0
       (λ key needed apart. needs_more (among (Register left ∷ Register right ∷ []) key) (keys key) (is_key key (Register to)) needed
       apart) apart shows (front ++ piece) steady shown (subst (λ (lines_of : List Line). StandsAt lines at lines_of) (sym joined)
       stands) in

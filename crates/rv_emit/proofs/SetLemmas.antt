@@ -1,14 +1,10 @@
 -- Lines that set the home of a register to a number: at the start of a loop, and behind each turn.
-use Rattle.std.specs.Prelude.{◌≡◌, ◌≢◌, ℕ, ◌+◌, ◌*◌, ◌%◌, ◌^◌, ◌<◌, ◌≤◌, true, false, ℤ, ◌+ℤ◌, FitsSigned, List, [], ◌∷◌, length, Some}
+use Rattle.std.specs.Prelude.{◌≡◌, ℕ, ◌+◌, ◌^◌, ◌<◌, false, ℤ, ◌+ℤ◌, FitsSigned, List, [], ◌∷◌, length}
 use Rattle.std.specs.Int.{w64}
-use Rattle.std.proofs.Common.{refl, ap, sym, subst, ◌∙◌, arith, inl, inr}
-use Rattle.std.proofs.lemmas.Bool.{cases_Bool, true≢false, or_left}
+use Rattle.std.proofs.Common.{refl, ap, sym, subst, ◌∙◌, arith}
 use Rattle.std.proofs.lemmas.Bool.Decides.{nat_tests}
-use Rattle.loop_ir.specs.Needed.{Keys}
-use Rattle.loop_ir.specs.Running.{Key, Register, Pointer, State, holding, is_key}
 use Rattle.register_map.specs.declared.home.Home.{Home}
-use Rattle.register_map.specs.Fits.{SetsApart}
-use Rattle.register_map.specs.Homes.{IsHome, home_of}
+use Rattle.register_map.specs.Homes.{IsHome}
 use Rattle.rv_line.specs.Fits.{IsImmediate}
 use Rattle.rv_line.specs.declared.line.Line.{Line}
 use Rattle.rv_line.specs.declared.line.Line.TheVariants.{Imm as ImmLine}
@@ -20,56 +16,12 @@ use Rattle.rv_steps.specs.Machine.{Config, Goes, IsAt, address_of, next_step, re
 use Rattle.rv_steps.specs.Pieces.{StandsAt}
 use Rattle.rv_steps.specs.Registers.{is_among}
 use Rattle.rv_steps.specs.Wrapped.{wrapped}
-use Rattle.rv_emit.specs.Emitting.{Plan}
-use Rattle.rv_emit.specs.Handling.{Changes}
+use Rattle.rv_emit.specs.Handling.{Changes, Fetching, Putting}
+use Rattle.rv_emit.specs.MachineLaws.{MachineLaws}
 use Rattle.rv_emit.specs.Moving.{fetch_lines, put_lines, register_of}
-use Rattle.rv_emit.specs.Showing.{HasBlock, IsSetting, Shows, held_in, shown}
-use Rattle.rv_emit.proofs.CountingLemmas.{held-set, key-same, key-self, other-set}
-use Rattle.rv_emit.proofs.SimulateLemmas.{Fetched, KeepsBut, Laws, Put, Ran, among-but, among-two, block-kept, held-kept, home-apart, home-below, keeps-from, keeps-on, ran, ran-then}
-
--- ---- what is shown once a home is set
-
-shown-set : (plan : Plan) (base number : ℕ) (value : ℤ) (state : State) (home : Home) (key : Key) → key ≡ Register number
-    → shown plan base [] (holding (Register number) value state) key home ≡ wrapped value
-shown-set plan base number value state home key same =
-    subst (λ k. shown plan base [] (holding (Register number) value state) k home ≡ wrapped value) (sym same)
-    (ap wrapped (held-set (Register number) value state))
-
-shown-other : (plan : Plan) (base number : ℕ) (value : ℤ) (state : State) (home : Home) (key : Key) → is_key key (Register number) ≡ false
-    → shown plan base [] state key home ≡ shown plan base [] (holding (Register number) value state) key home
-shown-other plan base number value state home (Register other) apart =
-    ap wrapped (sym (other-set (Register number) value state (Register other) apart))
-shown-other plan base number value state home (Pointer other) apart = refl
-
-pub shows-set : (plan : Plan) (base number : ℕ) (value : ℤ) (keys behind : Keys) (state : State) (home : Home) (c d : Config)
-    → IsSetting plan base (length state.words) → home_of plan.homes (Register number) ≡ Some home
-    → SetsApart (home_of plan.homes) (Register number ∷ []) behind
-    → ((key : Key) → behind key ≡ true → is_key key (Register number) ≡ false → keys key ≡ true)
-    → Shows plan base [] keys state c → Changes base plan.spill (length state.words) home (wrapped value) c d
-    → Shows plan base [] behind (holding (Register number) value state) d
-shows-set plan base number value keys behind state home c d setting there apart before shows changes = record {
-  block = changes.block;
-  words = changes.areas ∙ shows.words;
-  held = λ key found need at.
-      elim (cases_Bool (is_key key (Register number))) [
-        | inl is ↦
-            let same : key ≡ Register number = key-same key (Register number) is in
-            let one : Some found ≡ Some home = sym at ∙ ap (home_of plan.homes) same ∙ there in
-            let its : found ≡ home = cc in
-            ap (held_in d) its ∙ changes.here ∙ sym (shown-set plan base number value state found key same)
-        | inr other ↦
-            let differs : found ≢ home = λ e.
-            let same : Register number ≡ key = apart (Register number) key
-            (or_left (is_key (Register number) (Register number)) false (key-self (Register number))) need
-            (there ∙ ap Some (sym e) ∙ sym at) in
-            let is : is_key key (Register number) ≡ true =
-            subst (λ k. is_key k (Register number) ≡ true) same (key-self (Register number)) in
-            true≢false (sym is ∙ other) in
-            changes.others found (setting.homes key found at) differs ∙ shows.held key found (before key need other) at
-            ∙ shown-other plan base number value state found key other
-      ];
-  clear = λ other found need at. refl;
-}
+use Rattle.rv_emit.specs.Showing.{HasBlock, HasRoom, held_in}
+use Rattle.rv_emit.proofs.SimulateLemmas.{KeepsBut, Ran, among-but, among-two, block-kept, held-kept, home-apart, home-below}
+use Rattle.rv_emit.proofs.SimulateLemmas.{keeps-from, keeps-on, ran, ran-then}
 
 -- ---- a home is put behind lines that leave the others alone
 
@@ -78,8 +30,7 @@ pub record Sets (lines : List Line) (base spill words n to : ℕ) (home : Home) 
   pub changes : Changes base spill words home value c run.last
   pub register : register_at run.last.registers (register_of 30 home) ≡ value
 
-module _ (laws : Laws) (put : Put) (lines : List Line) (base spill words : ℕ) (eights : base % 8 ≡ 0)
-    (room : base + 8 * (spill + words) ≤ 2 ^ 64) (few : spill ≤ 134217728) where
+module _ (laws : MachineLaws) (put : Putting) (lines : List Line) (base spill words : ℕ) (room : HasRoom base spill words) where
   pub put-behind : (n at : ℕ) (home : Home) (value : ℕ) (c : Config) → HasBlock base spill words c → IsHome spill home
       → (first : Ran lines base spill n at c) → KeepsBut (register_of 30 home) c first.last
       → register_at first.last.registers (register_of 30 home) ≡ value → value < 2 ^ 64
@@ -89,7 +40,7 @@ module _ (laws : Laws) (put : Put) (lines : List Line) (base spill words : ℕ) 
       let middle = first.last in
       let still : HasBlock base spill words middle =
       block-kept base spill words (register_of 30 home) c middle (home-apart spill 30 home (omega arith) is) keeps has in
-      let puts = put lines base spill words at home middle eights room few still is stands first.there
+      let puts = put lines base spill words at home middle room still is stands first.there
       (subst (λ n. n < 2 ^ 64) (sym holds) small) in
       let last = puts.run.last in
       let below = home-below spill 30 home (omega arith) is in
@@ -115,7 +66,7 @@ pub record Fixed (lines : List Line) (base spill n to r value : ℕ) (c : Config
   pub keeps : KeepsBut r c run.last
   pub holds : register_at run.last.registers r ≡ value
 
-pub fixed : (laws : Laws) (lines : List Line) (base spill at r : ℕ) (value : ℤ) (c : Config)
+pub fixed : (laws : MachineLaws) (lines : List Line) (base spill at r : ℕ) (value : ℤ) (c : Config)
     → StandsAt lines at (constant_lines r value) → 0 < r → r < length c.registers → FitsSigned w64 value → c.pc ≡ address_of at
     → Fixed lines base spill (length (constant_lines r value)) (at + length (constant_lines r value)) r (wrapped value) c
 fixed laws lines base spill at r value c stands some below fits pc =
@@ -135,7 +86,7 @@ fixed laws lines base spill at r value c stands some below fits pc =
 
 -- ---- a register that counts
 
-pub counted-on : (laws : Laws) (lines : List Line) (base spill at r : ℕ) (value by : ℤ) (c : Config)
+pub counted-on : (laws : MachineLaws) (lines : List Line) (base spill at r : ℕ) (value by : ℤ) (c : Config)
     → StandsAt lines at (ImmLine Addi r r by ∷ []) → 0 < r → r < length c.registers → IsImmediate by
     → register_at c.registers r ≡ wrapped value
     → c.pc ≡ address_of at → Fixed lines base spill 1 (at + 1) r (wrapped (value +ℤ by)) c
@@ -161,12 +112,12 @@ counted-on laws lines base spill at r value by c stands some below small holds p
 
 -- ---- what is fetched, from a home to its register
 
-pub fetched : (fetch : Fetched) (lines : List Line) (base spill words at : ℕ) (home : Home) (c : Config)
-    → base % 8 ≡ 0 → base + 8 * (spill + words) ≤ 2 ^ 64 → spill ≤ 134217728 → HasBlock base spill words c → IsHome spill home
+pub fetched : (fetch : Fetching) (lines : List Line) (base spill words at : ℕ) (home : Home) (c : Config)
+    → HasRoom base spill words → HasBlock base spill words c → IsHome spill home
     → StandsAt lines at (fetch_lines 30 home) → c.pc ≡ address_of at
     → Fixed lines base spill (length (fetch_lines 30 home)) (at + length (fetch_lines 30 home)) (register_of 30 home) (held_in c home) c
-fetched fetch lines base spill words at home c eights room few has is stands pc =
-    let f = fetch lines base spill words at 30 home c eights room few has is (omega arith) (omega arith) stands pc in
+fetched fetch lines base spill words at home c room has is stands pc =
+    let f = fetch lines base spill words at 30 home c room has is (omega arith) (omega arith) stands pc in
     record {
       run = ran lines base spill at (fetch_lines 30 home) c f.run;
       keeps = keeps-from (register_of 30 home) (30 ∷ 31 ∷ []) c f.run.last f.others f.block
@@ -175,7 +126,7 @@ fetched fetch lines base spill words at home c eights room few has is stands pc 
     }
 
 -- two runs that fix the same register
-pub fixed-on : (laws : Laws) (lines : List Line) (base spill m n middle to r one value : ℕ) (c : Config)
+pub fixed-on : (laws : MachineLaws) (lines : List Line) (base spill m n middle to r one value : ℕ) (c : Config)
     → (first : Fixed lines base spill m middle r one c) → Fixed lines base spill n to r value first.run.last
     → Fixed lines base spill (m + n) to r value c
 fixed-on laws lines base spill m n middle to r one value c first second = record {

@@ -1,143 +1,204 @@
--- What a configuration shows when the home of one key is set.
-use Rattle.std.proofs.Common.{◌≡◌, ◌≢◌, ℕ, Bool, true, false, ℤ, pos, Some, None, [], ◌∷◌, length, refl, sym, ap, ◌∙◌, arith}
-use Rattle.std.proofs.lemmas.Bool.{both_ways, eqb-true, false_from_ne_true}
-use Rattle.std.proofs.lemmas.Bool.Decides.{nat_tests}
+-- What a configuration still shows where one home has changed, and where one owes more.
+use Rattle.std.specs.Prelude.{◌≡◌, ◌≢◌, ℕ, ◌^◌, ◌<◌, Bool, true, false, not, ◌&&◌, ◌||◌, ℤ, pos, ◌+ℤ◌, ◌-ℤ◌, ◌*ℤ◌, List, [], ◌∷◌, length}
+use Rattle.std.specs.Prelude.{Option, Some, None, IsSome}
+use Rattle.std.specs.Int.{int_wrap, w64}
 use Rattle.std.specs.Option.{unwrap_or}
-use Rattle.std.specs.Prelude.{Option, if◌then◌else◌, IsSome}
-use Rattle.loop_ir.specs.Needed.{Keys}
-use Rattle.loop_ir.specs.Running.{Access as Touch, Key, Pointer, Register, State, holding, is_key, made}
-use Rattle.register_map.specs.Fits.{SetsApart}
-use Rattle.register_map.specs.Homes.{IsHome, home_of}
+use Rattle.std.proofs.Common.{refl, sym, ap, subst, ◌∙◌}
+use Rattle.loop_ir.specs.Needed.{Keys, among, needed}
+use Rattle.loop_ir.specs.Running.{Key, Register, Pointer, State, holding, is_key}
+use Rattle.loop_ir.specs.Steps.{End, Then, Walk}
 use Rattle.register_map.specs.declared.home.Home.{Home}
 use Rattle.register_map.specs.declared.home.Home.TheVariants as home
+use Rattle.register_map.specs.Fits.{SetsApart}
+use Rattle.register_map.specs.Homes.{home_of}
+use Rattle.rv_steps.specs.Good.{values_at}
 use Rattle.rv_steps.specs.Machine.{Config}
+use Rattle.rv_steps.specs.Wrapped.{wrapped}
 use Rattle.rv_emit.specs.Emitting.{Plan, home_at}
 use Rattle.rv_emit.specs.Handling.{Changes}
-use Rattle.rv_emit.specs.Showing.{Shows, held_in, shown}
-use Rattle.rv_emit.specs.Walks.{Owed, is_home, owed_at, without}
+use Rattle.rv_emit.specs.Showing.{HasBlock, IsSetting, Shows, held_in, shown}
+use Rattle.rv_emit.specs.Walks.{Owed, owed_at, with_walk, without}
+use Rattle.rv_emit.proofs.PlaceNumberLemmas.{key-is, key-same, walk-other, walk-same, walks-on, wrapped-below, without-other, without-same}
 
--- ---- homes and keys as tests
+-- ---- keys and homes
 
-pub home_same : (one other : Home) → is_home one other ≡ true → one ≡ other
-home_same (home.Register number) (home.Register other) h = ap home.Register (eqb-true number other h)
-home_same (home.Register number) (home.Spill word) h = cc
-home_same (home.Spill word) (home.Register number) h = cc
-home_same (home.Spill word) (home.Spill other) h = ap home.Spill (eqb-true word other h)
+-- a home that is there
+some-unwraps : {X : Type 0} (o : Option X) (other : X) → IsSome o → o ≡ Some (unwrap_or o other)
+some-unwraps None other h = cc
+some-unwraps (Some x) other h = refl
 
-pub home_differs : (one other : Home) → one ≢ other → is_home one other ≡ false
-home_differs one other apart = false_from_ne_true (is_home one other) (λ same. apart (home_same one other same))
+pub home-there : (plan : Plan) (key : Key) → IsSome (home_of plan.homes key) → home_of plan.homes key ≡ Some (home_at plan key)
+home-there plan key there = some-unwraps (home_of plan.homes key) (home.Spill 0) there
 
-pub key_same : (one other : Key) → is_key one other ≡ true → one ≡ other
-key_same (Register number) (Register other) h = ap Register (eqb-true number other h)
-key_same (Register number) (Pointer other) h = cc
-key_same (Pointer number) (Register other) h = cc
-key_same (Pointer number) (Pointer other) h = ap Pointer (eqb-true number other h)
+some-same : {X : Type 0} (o : Option X) (x y : X) → o ≡ Some x → o ≡ Some y → x ≡ y
+some-same o x y e f = cc
 
-pub key_itself : (key : Key) → is_key key key ≡ true
-key_itself (Register number) = grind (arith, nat_tests)
-key_itself (Pointer number) = grind (arith, nat_tests)
+-- what is wanted behind an action and not set by it is needed before it
+pub wanted-before : (read set : List Key) (keys : Keys) (key : Key) → keys key ≡ true → among set key ≡ false
+    → (among read key || (keys key && not (among set key))) ≡ true
+wanted-before read set keys key want out = rw (want, out) (either (among read key))
+  where
+    either : (b : Bool) → (b || (true && not false)) ≡ true
+    either true = refl
+    either false = refl
 
-some_same : {one other : Home} → Some one ≡ Some other → one ≡ other
-some_same e = cc
+pub read-before : (read set : List Key) (keys : Keys) (key : Key) → among read key ≡ true
+    → (among read key || (keys key && not (among set key))) ≡ true
+read-before read set keys key want = rw want refl
 
--- ---- what homes owe
+pub among-one : (key other : Key) → among (other ∷ []) key ≡ is_key key other
+among-one key other = by (is_key key other)
+  where
+    by : (b : Bool) → (b || false) ≡ b
+    by true = refl
+    by false = refl
 
--- a home that was set owes nothing
-owes_nothing_at : (b : Bool) (first : Home × ℤ) (others : Owed) (home : Home) → is_home first.0 home ≡ b
-    → owed_at (without others home) home ≡ pos 0 → owed_at (if b then without others home else first ∷ without others home) home ≡ pos 0
-owes_nothing_at true first others home same rest = rest
-owes_nothing_at false first others home apart rest = rw apart rest
+-- what is shown of a key whose number is the same, where its home owes as much
+pub shown-same : (plan : Plan) (base : ℕ) (one two : Owed) (before after : State) (key : Key) (place : Home)
+    → after.held key ≡ before.held key → owed_at two place ≡ owed_at one place
+    → shown plan base one before key place ≡ shown plan base two after key place
+shown-same plan base one two before after (Register number) place e f = ap wrapped (sym e)
+shown-same plan base one two before after (Pointer number) place e f =
+    ap (λ held. wrapped (pos base +ℤ pos 8 *ℤ (pos plan.spill +ℤ (held -ℤ owed_at one place)))) (sym e)
+    ∙ ap (λ owed. wrapped (pos base +ℤ pos 8 *ℤ (pos plan.spill +ℤ (after.held (Pointer number) -ℤ owed)))) (sym f)
 
-pub owes_nothing : (owed : Owed) (home : Home) → owed_at (without owed home) home ≡ pos 0
-owes_nothing [] home = refl
-owes_nothing (first ∷ others) home = owes_nothing_at (is_home first.0 home) first others home refl (owes_nothing others home)
+pub shown-below : (plan : Plan) (base : ℕ) (owed : Owed) (state : State) (key : Key) (place : Home)
+    → shown plan base owed state key place < 2 ^ 64
+shown-below plan base owed state (Register number) place = wrapped-below (state.held (Register number))
+shown-below plan base owed state (Pointer number) place =
+    wrapped-below (pos base +ℤ pos 8 *ℤ (pos plan.spill +ℤ (state.held (Pointer number) -ℤ owed_at owed place)))
 
--- and the others owe what they did
-owes_still_at : (b : Bool) (first : Home × ℤ) (others : Owed) (home other : Home) → is_home first.0 home ≡ b → other ≢ home
-    → owed_at (without others home) other ≡ owed_at others other
-    → owed_at (if b then without others home else first ∷ without others home) other ≡ owed_at (first ∷ others) other
-owes_still_at true first others home other same apart rest =
-    let differs : is_home first.0 other ≡ false = home_differs first.0 other (λ e. apart (sym e ∙ home_same first.0 home same)) in
-    rest ∙ rw differs refl
-owes_still_at false first others home other _ apart rest = rw rest refl
+-- what is not this key differs from it
+pub other-key : (key other : Key) → is_key other key ≡ false → other ≢ key
+other-key key other out same = let h : is_key other key ≡ true = rw same (key-same key) in cc
 
-pub owes_still : (owed : Owed) (home other : Home) → other ≢ home → owed_at (without owed home) other ≡ owed_at owed other
-owes_still [] home other apart = refl
-owes_still (first ∷ others) home other apart = owes_still_at (is_home first.0 home) first others home other refl apart
-    (owes_still others home other apart)
+-- ---- a home has changed
 
--- ---- homes of keys
+module _ (plan : Plan) (base : ℕ) (owed : Owed) (early keys : Keys) (before after : State) (c d : Config) (key : Key) (place : Home)
+    (value : ℕ)
+    (setting : IsSetting plan base (length before.words)) (there : home_of plan.homes key ≡ Some place)
+    (apart : (other : Key) → keys other ≡ true → home_of plan.homes key ≡ home_of plan.homes other → key ≡ other)
+    (wanted : (other : Key) → keys other ≡ true → is_key other key ≡ false → early other ≡ true)
+    (same : (other : Key) → is_key other key ≡ false → after.held other ≡ before.held other)
+    (words : after.words ≡ before.words) (shows : Shows plan base owed early before c)
+    (changes : Changes base plan.spill (length before.words) place value c d)
+    (right : value ≡ shown plan base (without owed place) after key place) where
+  other-home : (other : Key) (home : Home) → keys other ≡ true → home_of plan.homes other ≡ Some home → is_key other key ≡ false
+      → place ≢ home
+  other-home other home want on out = λ e. other-key key other out (sym (apart other want (there ∙ ap Some e ∙ sym on)))
 
-there_at : (o : Option Home) (default : Home) → IsSome o → o ≡ Some (unwrap_or o default)
-there_at None default h = cc
-there_at (Some home) default h = refl
+  changed-held : (other : Key) (home : Home) → keys other ≡ true → home_of plan.homes other ≡ Some home
+      → held_in d home ≡ shown plan base (without owed place) after other home
+  changed-held other home want on = by (is_key other key) refl
+    where
+      by : (b : Bool) → is_key other key ≡ b → held_in d home ≡ shown plan base (without owed place) after other home
+      by true e =
+          let is = key-is other key e in
+          let at : place ≡ home = some-same (home_of plan.homes key) place home there (ap (λ k. home_of plan.homes k) (sym is) ∙ on) in
+          ap (λ h. held_in d h) (sym at) ∙ changes.here ∙ right
+          ∙ ap (λ k. shown plan base (without owed place) after k place) (sym is)
+          ∙ ap (λ h. shown plan base (without owed place) after other h) at
+      by false e =
+          let far = other-home other home want on e in
+          changes.others home (setting.homes other home on) (λ h. far (sym h)) ∙ shows.held other home (wanted other want e) on
+          ∙ shown-same plan base owed (without owed place) before after other home (same other e) (without-other owed place home far)
 
--- the home of a key that has one
-pub home_there : (plan : Plan) (key : Key) → IsSome (home_of plan.homes key) → home_of plan.homes key ≡ Some (home_at plan key)
-home_there plan key h = there_at (home_of plan.homes key) (home.Spill 0) h
+  changed-clear : (number : ℕ) (home : Home) → keys (Register number) ≡ true → home_of plan.homes (Register number) ≡ Some home
+      → owed_at (without owed place) home ≡ pos 0
+  changed-clear number home want on = by (is_key (Register number) key) refl
+    where
+      by : (b : Bool) → is_key (Register number) key ≡ b → owed_at (without owed place) home ≡ pos 0
+      by true e =
+          let is = key-is (Register number) key e in
+          let at : place ≡ home = some-same (home_of plan.homes key) place home there (ap (λ k. home_of plan.homes k) (sym is) ∙ on) in
+          ap (λ h. owed_at (without owed place) h) (sym at) ∙ without-same owed place
+      by false e =
+          without-other owed place home (other-home (Register number) home want on e)
+          ∙ shows.clear number home (wanted (Register number) want e) on
 
--- ---- a home is set
-
--- what the home of another key must hold stays as it was
-shown_still : (plan : Plan) (base : ℕ) (owed : Owed) (set : Key) (home : Home) (number : ℤ) (state : State) (key : Key) (other : Home)
-    → is_key key set ≡ false → other ≢ home → shown plan base owed state key other ≡ shown plan base (without owed home)
-    (holding set number state) key other
-shown_still plan base owed set home number state (Register name) other differs apart = rw differs refl
-shown_still plan base owed set home number state (Pointer name) other differs apart = rw (differs, owes_still owed home other apart) refl
-
-module _ (plan : Plan) (base : ℕ) (owed : Owed) (before keys : Keys) (state : State) (c d : Config) (set : Key) (home : Home) (number : ℤ)
-    (value : ℕ) (there : home_of plan.homes set ≡ Some home) (homes : (key : Key) (home : Home) → home_of plan.homes key ≡ Some home
-    → IsHome plan.spill home) (needs : (key : Key) → keys key ≡ true → is_key key set ≡ false → before key ≡ true)
-    (apart : SetsApart (home_of plan.homes) (set ∷ []) keys) (shows : Shows plan base owed before state c)
-    (changes : Changes base plan.spill (length state.words) home value c d)
-    (is : value ≡ shown plan base (without owed home) (holding set number state) set home) where
-  -- the key is set or its home is another one
-  other_home : (key : Key) (other : Home) → keys key ≡ true → home_of plan.homes key ≡ Some other → is_key key set ≡ false → other ≢ home
-  other_home key other needed at differs same =
-      let e : set ≡ key = apart set key (rw (key_itself set) refl) needed (there ∙ ap Some (sym same) ∙ sym at) in
-      both_ways (is_key key set) differs (ap (λ (x : Key). is_key x set) (sym e) ∙ key_itself set)
-
-  held_at : (b : Bool) (key : Key) (other : Home) → is_key key set ≡ b → keys key ≡ true → home_of plan.homes key ≡ Some other
-      → held_in d other ≡ shown plan base (without owed home) (holding set number state) key other
-  held_at true key other same needed at =
-      let k : key ≡ set = key_same key set same in
-      let h : other ≡ home = some_same (sym at ∙ ap (λ (x : Key). home_of plan.homes x) k ∙ there) in
-      rw (h, k) (changes.here ∙ is)
-  held_at false key other differs needed at =
-      let h = other_home key other needed at differs in
-      changes.others other (homes key other at) h ∙ shows.held key other (needs key needed differs) at
-      ∙ shown_still plan base owed set home number state key other differs h
-
-  clear_at : (b : Bool) (name : ℕ) (other : Home) → is_key (Register name) set ≡ b → keys (Register name) ≡ true
-      → home_of plan.homes (Register name) ≡ Some other → owed_at (without owed home) other ≡ pos 0
-  clear_at true name other same needed at =
-      let k : Register name ≡ set = key_same (Register name) set same in
-      let h : other ≡ home = some_same (sym at ∙ ap (λ (x : Key). home_of plan.homes x) k ∙ there) in
-      rw h (owes_nothing owed home)
-  clear_at false name other differs needed at =
-      let h = other_home (Register name) other needed at differs in
-      owes_still owed home other h ∙ shows.clear name other (needs (Register name) needed differs) at
-
-  -- the key has its new number, and all else that is needed stays
-  pub shows_set : Shows plan base (without owed home) keys (holding set number state) d
-  shows_set = record {
-    block = changes.block;
-    words = changes.areas ∙ shows.words;
-    held = λ key other needed at. held_at (is_key key set) key other refl needed at;
-    clear = λ name other needed at. clear_at (is_key (Register name) set) name other refl needed at;
+  pub shows-changed : Shows plan base (without owed place) keys after d
+  shows-changed = record {
+    block = subst (λ list. HasBlock base plan.spill (length list) d) (sym words) changes.block;
+    words = subst (λ list. values_at d.block plan.spill (length list) ≡ list) (sym words) (changes.areas ∙ shows.words);
+    held = changed-held;
+    clear = changed-clear;
   }
 
--- an access that comes to the trace shows nowhere
-pub shows_made : (plan : Plan) (base : ℕ) (owed : Owed) (keys : Keys) (state : State) (c : Config) (touch : Touch)
-    → Shows plan base owed keys state c → Shows plan base owed keys (made touch state) c
-shows_made plan base owed keys state c touch shows = record {
-  block = shows.block;
-  words = shows.words;
-  held = shown_made;
-  clear = shows.clear;
-}
-  where
-    shown_made : (key : Key) (home : Home) → keys key ≡ true → home_of plan.homes key ≡ Some home
-        → held_in c home ≡ shown plan base owed (made touch state) key home
-    shown_made (Register name) home needed at = shows.held (Register name) home needed at
-    shown_made (Pointer name) home needed at = shows.held (Pointer name) home needed at
+-- a register's number is what its home must hold
+pub shown-number : (plan : Plan) (base : ℕ) (owed : Owed) (name : ℕ) (number : ℤ) (state : State) (place : Home)
+    → wrapped number ≡ shown plan base owed (holding (Register name) number state) (Register name) place
+shown-number plan base owed name number state place = rw (key-same (Register name)) refl
+
+-- a key has its new number, and all else that is needed stays
+pub shows-held : (plan : Plan) (base : ℕ) (owed : Owed) (early keys : Keys) (state : State) (c d : Config) (key : Key) (place : Home)
+    (number : ℤ) (value : ℕ)
+    → IsSetting plan base (length state.words) → home_of plan.homes key ≡ Some place → SetsApart (home_of plan.homes) (key ∷ []) keys
+    → ((other : Key) → keys other ≡ true → is_key other key ≡ false → early other ≡ true)
+    → Shows plan base owed early state c → Changes base plan.spill (length state.words) place value c d
+    → value ≡ shown plan base (without owed place) (holding key number state) key place
+    → Shows plan base (without owed place) keys (holding key number state) d
+shows-held plan base owed early keys state c d key place number value setting there apart wanted shows changes right =
+    shows-changed plan base owed early keys state (holding key number state) c d key place value setting there
+    (λ other want e. apart key other (among-one key key ∙ key-same key) want e) wanted (λ other out. rw out refl) refl shows changes
+    right
+
+-- ---- a place walks on
+
+module _ (plan : Plan) (base : ℕ) (owed : Owed) (keys : Keys) (state : State) (c : Config) (place : ℕ) (words : ℤ)
+    (there : IsSome (home_of plan.homes (Pointer place))) (apart : SetsApart (home_of plan.homes) (Pointer place ∷ []) keys)
+    (shows : Shows plan base owed (needed (Then (Walk place words) End) keys) state c) where
+  abbrev after : State
+  after = holding (Pointer place) (state.held (Pointer place) +ℤ words) state
+
+  abbrev owing : Owed
+  owing = with_walk owed (home_at plan (Pointer place)) words
+
+  walk-needs : (key : Key) → keys key ≡ true → needed (Then (Walk place words) End) keys key ≡ true
+  walk-needs key want = by (among (Pointer place ∷ []) key)
+    where
+      by : (b : Bool) → (b || (keys key && not b)) ≡ true
+      by true = refl
+      by false = rw want refl
+
+  walk-place : (home : Home) → home_of plan.homes (Pointer place) ≡ Some home
+      → held_in c home ≡ shown plan base owing after (Pointer place) home
+  walk-place home on =
+      let at : home_at plan (Pointer place) ≡ home = some-same (home_of plan.homes (Pointer place)) (home_at plan (Pointer place)) home
+      (home-there plan (Pointer place) there) on in
+      let read = read-before (Pointer place ∷ []) (Pointer place ∷ []) keys (Pointer place)
+      (among-one (Pointer place) (Pointer place) ∙ key-same (Pointer place)) in
+      shows.held (Pointer place) home read on
+      ∙ walks-on (pos base) (pos plan.spill) (state.held (Pointer place)) words (owed_at owed home) (owed_at owing home)
+      (subst (λ h. int_wrap w64 (owed_at owing h) ≡ int_wrap w64 (owed_at owed h +ℤ words)) at
+      (walk-same owed (home_at plan (Pointer place)) words))
+      ∙ rw (key-same (Pointer place)) refl
+
+  walk-apart : (key : Key) (home : Home) → keys key ≡ true → home_of plan.homes key ≡ Some home → is_key key (Pointer place) ≡ false
+      → home_at plan (Pointer place) ≢ home
+  walk-apart key home want on out = λ e.
+      other-key (Pointer place) key out (sym (apart (Pointer place) key
+      (among-one (Pointer place) (Pointer place) ∙ key-same (Pointer place)) want
+      (home-there plan (Pointer place) there ∙ ap Some e ∙ sym on)))
+
+  walk-held : (key : Key) (home : Home) → keys key ≡ true → home_of plan.homes key ≡ Some home
+      → held_in c home ≡ shown plan base owing after key home
+  walk-held key home want on = by (is_key key (Pointer place)) refl
+    where
+      by : (b : Bool) → is_key key (Pointer place) ≡ b → held_in c home ≡ shown plan base owing after key home
+      by true e =
+          let is = key-is key (Pointer place) e in
+          walk-place home (ap (λ k. home_of plan.homes k) (sym is) ∙ on) ∙ ap (λ k. shown plan base owing after k home) (sym is)
+      by false e =
+          shows.held key home (walk-needs key want) on
+          ∙ shown-same plan base owed owing state after key home (rw e refl)
+          (walk-other owed (home_at plan (Pointer place)) words home (walk-apart key home want on e))
+
+  pub shows-walk : Shows plan base owing keys after c
+  shows-walk = record {
+    block = shows.block;
+    words = shows.words;
+    held = walk-held;
+    clear = λ number home want on.
+        walk-other owed (home_at plan (Pointer place)) words home (walk-apart (Register number) home want on refl)
+        ∙ shows.clear number home (walk-needs (Register number) want) on;
+  }

@@ -1,7 +1,5 @@
 -- Ways from one configuration to another that do what steps do, and how they follow one another.
-use Rattle.std.specs.Prelude.{◌≡◌, ◌≢◌, All, ℕ, ◌+◌, ◌*◌, ◌%◌, ◌^◌, ◌<◌, ◌≤◌, Bool, true, false, not, ℤ, pos, ◌+ℤ◌, FitsSigned, List, [], ◌∷◌, ◌++◌, length, map, reverse, Option, None, Some, slice_get, IsSome}
-use Rattle.std.specs.Int.{w64}
-use Rattle.std.specs.Option.{unwrap_or}
+use Rattle.std.specs.Prelude.{◌≡◌, ◌≢◌, All, ℕ, ◌+◌, ◌<◌, ◌≤◌, Bool, true, false, not, List, [], ◌∷◌, ◌++◌, length, map, reverse}
 use Rattle.std.proofs.Common.{refl, ap, ap₂, sym, subst, ◌∙◌, append_assoc, arith, length-append}
 use Rattle.std.proofs.lemmas.Bool.{false≢true}
 use Rattle.std.proofs.lemmas.Bool.Decides.{nat_tests}
@@ -11,84 +9,18 @@ use Rattle.loop_ir.specs.Needed.{Keys}
 use Rattle.loop_ir.specs.Running.{Access as Touch, Key, Register, State}
 use Rattle.register_map.specs.declared.home.Home.{Home}
 use Rattle.register_map.specs.declared.home.Home.TheVariants as home
-use Rattle.register_map.specs.Homes.{IsHome, home_of, is_given}
-use Rattle.rv_line.specs.Fits.{IsImmediate}
-use Rattle.rv_line.specs.declared.line.Branch.{Branch}
+use Rattle.register_map.specs.Homes.{IsHome, is_given}
 use Rattle.rv_line.specs.declared.line.Line.{Line}
-use Rattle.rv_line.specs.declared.line.Line.TheVariants.{Imm as ImmLine, Branch as BranchLine}
-use Rattle.rv_line.specs.declared.line.Imm.TheVariants.{Addi}
-use Rattle.rv_steps.specs.Accesses.{Leads, touched}
-use Rattle.rv_steps.specs.Constants.{constant_lines}
-use Rattle.rv_steps.specs.Effects.{is_taken, word_of}
-use Rattle.rv_steps.specs.Machine.{Access, Config, Goes, IsAt, access_of, address_of, line_step, next_step, register_at, with_register, with_result}
-use Rattle.rv_steps.specs.Pieces.{StandsAt}
+use Rattle.rv_steps.specs.Accesses.{Leads}
+use Rattle.rv_steps.specs.Machine.{Access, Config, address_of, register_at}
 use Rattle.rv_steps.specs.Registers.{AgreeBut, is_among}
-use Rattle.rv_steps.specs.Wrapped.{wrapped}
-use Rattle.rv_emit.specs.Emitting.{Piece, Plan, home_at, straight}
-use Rattle.rv_emit.specs.Handling.{Fetches, Puts, Runs}
-use Rattle.rv_emit.specs.Moving.{fetch_lines, put_lines, register_of, settle_lines}
-use Rattle.rv_emit.specs.Showing.{AreHomes, AreInOrder, HasBlock, IsSetting, Shows, held_in, is_spill, access_of as access_for}
+use Rattle.rv_emit.specs.Emitting.{Piece, Plan}
+use Rattle.rv_emit.specs.Handling.{Runs}
+use Rattle.rv_emit.specs.MachineLaws.{MachineLaws}
+use Rattle.rv_emit.specs.Moving.{register_of}
+use Rattle.rv_emit.specs.Showing.{AreInOrder, HasBlock, Shows, held_in, is_spill, access_of as access_for}
 use Rattle.rv_emit.specs.Simulating.{Simulates}
 use Rattle.rv_emit.specs.Walks.{Owed}
-
--- ---- the laws on which ways stand
-
-pub record Laws : Type 0 where
-  pub none : (lines : List Line) (base : ℕ) (c : Config) → Leads lines base 0 c c []
-  pub line : (lines : List Line) (base k n : ℕ) (line : Line) (c d e : Config) (rest : List Access) → IsAt lines k line c
-      → next_step lines base c ≡ Goes d → Leads lines base n d e rest
-      → Leads lines base (n + 1) c e (touched (access_of line c.registers) ++ rest)
-  pub steps : (lines : List Line) (base m n : ℕ) (c d e : Config) (one two : List Access) → Leads lines base m c d one
-      → Leads lines base n d e two → Leads lines base (m + n) c e (one ++ two)
-  pub goes : (lines : List Line) (base k : ℕ) (c : Config) (line : Line) → IsAt lines k line c
-      → next_step lines base c ≡ line_step base k (Some line) c
-  pub taken : (lines : List Line) (base k : ℕ) (c : Config) (code : Branch) (left right target : ℕ)
-      → IsAt lines k (BranchLine code left right target) c
-      → is_taken code (register_at c.registers left) (register_at c.registers right) ≡ true
-      → next_step lines base c ≡ Goes (record c { pc = address_of target })
-  pub not_taken : (lines : List Line) (base k : ℕ) (c : Config) (code : Branch) (left right target : ℕ)
-      → IsAt lines k (BranchLine code left right target) c
-      → is_taken code (register_at c.registers left) (register_at c.registers right) ≡ false
-      → next_step lines base c ≡ Goes (record c { pc = c.pc + 4 })
-  pub there : (lines : List Line) (k : ℕ) (piece : List Line) (i : ℕ) → StandsAt lines k piece
-      → i < length piece → slice_get lines (k + i) ≡ slice_get piece i
-  pub front : (lines : List Line) (k : ℕ) (front back : List Line) → StandsAt lines k (front ++ back) → StandsAt lines k front
-  pub back : (lines : List Line) (k : ℕ) (front back : List Line) → StandsAt lines k (front ++ back)
-      → StandsAt lines (k + length front) back
-  pub addi : (lines : List Line) (base k to : ℕ) (c : Config) (from : ℕ) (z imm : ℤ)
-      → IsAt lines k (ImmLine Addi to from imm) c → register_at c.registers from ≡ wrapped z → IsImmediate imm
-      → next_step lines base c ≡ Goes (with_result c to (wrapped (z +ℤ imm)))
-  pub constant : (lines : List Line) (base k to : ℕ) (value : ℤ) (c : Config)
-      → StandsAt lines k (constant_lines to value) → 0 < to → to < length c.registers → FitsSigned w64 value
-      → c.pc ≡ address_of k
-      → Leads lines base (length (constant_lines to value)) c (record {
-        registers = with_register c.registers to (word_of value);
-        pc = address_of (k + length (constant_lines to value));
-        block = c.block;
-      }) []
-  pub natural : (n : ℕ) → n < 2 ^ 64 → wrapped (pos n) ≡ n
-  pub signed : (z : ℤ) → FitsSigned w64 z → word_of z ≡ wrapped z
-  pub below : (z : ℤ) → wrapped z < 2 ^ 64
-  pub set : (registers : List ℕ) (r value : ℕ) → 0 < r → r < length registers → register_at (with_register registers r value) r ≡ value
-  pub agree_one : (registers : List ℕ) (r value : ℕ) → AgreeBut (r ∷ []) registers (with_register registers r value)
-
-abbrev pub Fetched : Type 0
-Fetched = (lines : List Line) (base spill words at scratch : ℕ) (home : Home) (c : Config)
-    → base % 8 ≡ 0 → base + 8 * (spill + words) ≤ 2 ^ 64 → spill ≤ 134217728 → HasBlock base spill words c → IsHome spill home
-    → 28 ≤ scratch → scratch ≤ 30 → StandsAt lines at (fetch_lines scratch home) → c.pc ≡ address_of at
-    → Fetches lines base spill at scratch home c
-
-abbrev pub Put : Type 0
-Put = (lines : List Line) (base spill words at : ℕ) (home : Home) (c : Config)
-    → base % 8 ≡ 0 → base + 8 * (spill + words) ≤ 2 ^ 64 → spill ≤ 134217728 → HasBlock base spill words c → IsHome spill home
-    → StandsAt lines at (put_lines home) → c.pc ≡ address_of at → register_at c.registers (register_of 30 home) < 2 ^ 64
-    → Puts lines base spill words at home c
-
-abbrev pub Settled : Type 0
-Settled = (lines : List Line) (plan : Plan) (base at : ℕ) (owed : Owed) (keys : Keys) (state : State) (c : Config)
-    → IsSetting plan base (length state.words) → AreHomes plan.spill owed → Shows plan base owed keys state c
-    → StandsAt lines at (settle_lines owed) → c.pc ≡ address_of at
-    → Simulates lines plan base at (straight (settle_lines owed)) true [] keys state state c
 
 -- ---- how many lines three pieces have, and four
 
@@ -235,7 +167,7 @@ module _ (lines : List Line) (plan : Plan) (base : ℕ) where
     in_order = run.in_order;
   }
 
-module _ (laws : Laws) (lines : List Line) (base : ℕ) where
+module _ (laws : MachineLaws) (lines : List Line) (base : ℕ) where
   abbrev pub ran-none : (spill at : ℕ) (c : Config) → c.pc ≡ address_of at → Ran lines base spill 0 at c
   ran-none spill at c pc = record { last = c; accesses = []; leads = laws.none lines base c; there = pc; in_order = refl }
 
@@ -297,14 +229,6 @@ home-below spill scratch (home.Spill word) high h = omega (arith, high)
 pub home-apart : (spill scratch : ℕ) (home : Home) → 28 ≤ scratch → IsHome spill home → register_of scratch home ≢ 10
 home-apart spill scratch (home.Register number) low h = given-apart number h
 home-apart spill scratch (home.Spill word) low h = omega (arith, low)
-
--- the home of a key that has one
-unwrapped : (found : Option Home) (other : Home) → IsSome found → found ≡ Some (unwrap_or found other)
-unwrapped None other there = absurd (false≢true there)
-unwrapped (Some home) other there = refl
-
-pub home-found : (plan : Plan) (key : Key) → IsSome (home_of plan.homes key) → home_of plan.homes key ≡ Some (home_at plan key)
-home-found plan key there = unwrapped (home_of plan.homes key) (home.Spill 0) there
 
 -- ---- registers that are kept: those below x28 but one
 

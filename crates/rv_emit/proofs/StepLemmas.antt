@@ -1,5 +1,5 @@
 -- The lines of steps do what the steps do, by induction on the steps.
-use Rattle.std.specs.Prelude.{◌≡◌, ℕ, zero, suc, ◌+◌, ◌*◌, ◌^◌, ◌<◌, Bool, true, false, not, ◌&&◌, ◌||◌, ℤ, ◌+ℤ◌, List, [], ◌∷◌, ◌++◌, length, Some, IsSome, nat_lt, int_lt, if◌then◌else◌}
+use Rattle.std.specs.Prelude.{◌≡◌, ℕ, zero, suc, ◌+◌, ◌*◌, ◌^◌, ◌<◌, Bool, true, false, not, ◌&&◌, ◌||◌, ℤ, ◌+ℤ◌, List, [], ◌∷◌, ◌++◌, length, IsSome, nat_lt, int_lt, if◌then◌else◌}
 use Rattle.std.specs.Int.{int_wrap, w64}
 use Rattle.std.specs.List.{AllByRecursion}
 use Rattle.std.proofs.Common.{refl, ap, sym, subst, ◌∙◌, arith, length-append}
@@ -9,7 +9,7 @@ use Rattle.loop_ir.specs.Costs.{named}
 use Rattle.loop_ir.specs.Fitting.{Fits64, HoldsFit, SetsFit}
 use Rattle.loop_ir.specs.Kept.{EachNamed, KeepsCounters, may_set}
 use Rattle.loop_ir.specs.Needed.{Keys, needed, none}
-use Rattle.loop_ir.specs.Running.{Key, Register, Pointer, State, acted, is_key, repeated}
+use Rattle.loop_ir.specs.Running.{Register, Pointer, State, acted, is_key, repeated}
 use Rattle.loop_ir.specs.Steps.{Action, Set, Copy, One, Two, Place, Spot, Walk, Read, Write, Steps, End, Then, For, If}
 use Rattle.register_map.specs.declared.home.Home.{Home}
 use Rattle.register_map.specs.Fits.{Fits, SetsApart, at_head}
@@ -20,15 +20,20 @@ use Rattle.rv_steps.specs.Machine.{Config, address_of, register_at}
 use Rattle.rv_steps.specs.Pieces.{StandsAt}
 use Rattle.rv_emit.specs.Counting.{begun, gone_on, run_counting}
 use Rattle.rv_emit.specs.Emitting.{Plan, action_lines, choice_of, emitted, home_at, is_offset, lists_of, loop_of, near_owed, owed_after, owed_by, settled, start_lines, test_lines, turn_of}
+use Rattle.rv_emit.specs.Handling.{Fetching, Putting}
+use Rattle.rv_emit.specs.MachineLaws.{MachineLaws}
 use Rattle.rv_emit.specs.Moving.{fetch_lines, register_of, settle_lines}
-use Rattle.rv_emit.specs.Showing.{AreHomes, AreTouches, IsSetting, Shows}
-use Rattle.rv_emit.specs.Simulating.{ActionSimulates, Simulates, TestsFit, is_steady, is_steady_action}
+use Rattle.rv_emit.specs.Showing.{AreHomes, AreTouches, HomesLie, IsSetting, Shows}
+use Rattle.rv_emit.specs.Simulating.{ActionSimulates, Settling, StepsSimulate, TestsFit, is_steady, is_steady_action}
 use Rattle.rv_emit.specs.Walks.{Owed, is_home, owed_at, with_walk, without}
 use Rattle.rv_emit.proofs.ChoiceLemmas.{compares, lists-way, tested}
-use Rattle.rv_emit.proofs.CountingLemmas.{ActionLaws, acted-many, begun-turned, chosen-many, counting-fits, counting-grows, counting-many, either-fits, key-self, repeated-many, turns-fit}
+use Rattle.rv_emit.proofs.CountingLemmas.{ActionLaws, acted-many, begun-turned, chosen-many, counting-fits, counting-grows}
+use Rattle.rv_emit.proofs.CountingLemmas.{counting-many, either-fits, repeated-many, turns-fit}
 use Rattle.rv_emit.proofs.JumpLemmas.{shows-idle}
 use Rattle.rv_emit.proofs.LoopLemmas.{setting-for, start-way, touched-before}
-use Rattle.rv_emit.proofs.SimulateLemmas.{Fetched, Laws, Put, Settled, Way, Within, home-found, length-of-three, shows-fewer, simulates-of, way-of, way-ran, way-same, way-then}
+use Rattle.rv_emit.proofs.PlaceNumberLemmas.{key-same}
+use Rattle.rv_emit.proofs.ShowLemmas.{home-there}
+use Rattle.rv_emit.proofs.SimulateLemmas.{Way, Within, length-of-three, shows-fewer, simulates-of, way-of, way-ran, way-same, way-then}
 use Rattle.rv_emit.proofs.TurnLemmas.{ListWay, OwnWay, body-need, exit, list-way, turns-way}
 
 -- ---- the homes that owe are there
@@ -60,10 +65,6 @@ near-either : (spill : ℕ) (near : Bool) (owed : Owed) (home : Home) → AreHom
 near-either spill true owed home h = h
 near-either spill false owed home h = without-homes spill owed home h
 
--- each home lies where homes may
-abbrev pub HomesLie : Plan → Type 0
-HomesLie plan = (key : Key) (home : Home) → home_of plan.homes key ≡ Some home → IsHome plan.spill home
-
 action-homes : (plan : Plan) (owed : Owed) (action : Action) → HomesLie plan
     → AllByRecursion (λ key. IsSome (home_of plan.homes key)) (named action)
     → AreHomes plan.spill owed → AreHomes plan.spill (owed_by plan owed action)
@@ -75,7 +76,7 @@ action-homes plan owed (Place to word) lie there h = without-homes plan.spill ow
 action-homes plan owed (Spot to word by) lie there h = without-homes plan.spill owed (home_at plan (Pointer to)) h
 action-homes plan owed (Walk place words) lie there h =
     walk-homes plan.spill owed (home_at plan (Pointer place)) words
-    (lie (Pointer place) (home_at plan (Pointer place)) (home-found plan (Pointer place) there.0)) h
+    (lie (Pointer place) (home_at plan (Pointer place)) (home-there plan (Pointer place) there.0)) h
 action-homes plan owed (Read to area place) lie there h =
     let near = home_at plan (Pointer place) in
     without-homes plan.spill (near_owed owed near) (home_at plan (Register to))
@@ -124,7 +125,7 @@ Simulated = (action : Action) → ActionSimulates action
 all-done : (n : ℕ) → nat_lt n n ≡ false
 all-done n = grind (arith, nat_tests)
 
-module _ (laws : Laws) (acts : ActionLaws) (fetch : Fetched) (put : Put) (settle : Settled) (lines : List Line) (plan : Plan)
+module _ (laws : MachineLaws) (acts : ActionLaws) (fetch : Fetching) (put : Putting) (settle : Settling) (lines : List Line) (plan : Plan)
     (base words : ℕ)
     (setting : IsSetting plan base words) where
   loop-way : (at counter turns : ℕ) (owed : Owed) (body rest : Steps) (keys : Keys) (state : State) (c : Config)
@@ -173,7 +174,7 @@ module _ (laws : Laws) (acts : ActionLaws) (fetch : Fetched) (put : Put) (settle
       (λ key need other. apart-need (is_key key (Register counter)) (needed rest keys key) (needed body none key) true need other)
       shows (laws.front lines at start turn.lines stands) pc in
       let known : head (Register counter) ≡ true = or_left (is_key (Register counter) (Register counter))
-      (needed rest keys (Register counter) || needed body none (Register counter)) (key-self (Register counter)) in
+      (needed rest keys (Register counter) || needed body none (Register counter)) (key-same (Register counter)) in
       let end = top + length turn.lines in
       let second : Way lines plan base (turns * turn.steps) (exit top end turns turns) (is_steady body) [] head begin after first.last =
       turns-way laws acts fetch put lines plan base words setting counter turns top body head some apart known few kept
@@ -228,7 +229,7 @@ module _ (laws : Laws) (acts : ActionLaws) (fetch : Fetched) (put : Put) (settle
       (settle lines plan base at owed whole state c here homes shows (laws.front lines at owing (fetches ++ constant) front) pc) in
       let d = first.last in
       let known : whole (Register left) ≡ true = or_left (is_key (Register left) (Register left))
-      (needed one behind (Register left) || needed other behind (Register left)) (key-self (Register left)) in
+      (needed one behind (Register left) || needed other behind (Register left)) (key-same (Register left)) in
       let test = tested laws fetch lines plan base middle left below whole state d here some known small first.shows
       (laws.back lines at owing (fetches ++ constant) front) first.there in
       let e = test.run.last in
@@ -383,15 +384,8 @@ module _ (laws : Laws) (acts : ActionLaws) (fetch : Fetched) (put : Put) (settle
       (way-then laws lines base plan choice.steps more.steps next (next + length more.lines) false (is_steady rest)
       false [] (owed_after plan [] rest) behind keys state mid after c first second (λ yes. yes) (λ no. absurd (false≢true no)))
 
-pub steps-simulated : (laws : Laws) (acts : ActionLaws) (fetch : Fetched) (put : Put) (settle : Settled) → Simulated
-    → (lines : List Line) (plan : Plan) (base at : ℕ) (owed : Owed) (steps : Steps) (keys : Keys) (state : State) (c : Config)
-    → IsSetting plan base (length state.words) → AreHomes plan.spill owed
-    → EachNamed (λ key. IsSome (home_of plan.homes key)) steps → Fits (home_of plan.homes) steps keys
-    → KeepsCounters steps → SetsFit steps → TestsFit steps → HoldsFit state → Shows plan base owed (needed steps keys) state c
-    → StandsAt lines at (emitted plan owed steps at).lines → c.pc ≡ address_of at
-    → AreTouches (length state.words) (run_counting plan.down steps state)
-    → Simulates lines plan base at (emitted plan owed steps at) (is_steady steps) (owed_after plan owed steps) keys
-    state (run_counting plan.down steps state) c
+pub steps-simulated : (laws : MachineLaws) (acts : ActionLaws) (fetch : Fetching) (put : Putting) (settle : Settling) → Simulated
+    → StepsSimulate
 steps-simulated laws acts fetch put settle simulate lines plan base at owed steps keys state c setting homes some fits kept small tests fit
     shows stands pc touches =
     simulates-of lines plan base at (emitted plan owed steps at) (is_steady steps) (owed_after plan owed steps) keys state

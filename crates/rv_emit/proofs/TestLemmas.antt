@@ -21,7 +21,7 @@ use Rattle.rv_steps.specs.Constants.{constant_lines}
 use Rattle.rv_emit.specs.Moving.{is_near}
 use Rattle.rv_emit.specs.Pricing.{prices_of, total_cost, total_time, width_of}
 use Rattle.rv_emit.specs.Simulating.{AreReady, TestsFit}
-use Rattle.rv_emit.specs.TestNests.{IsSmall, dearest, settings}
+use Rattle.rv_emit.specs.TestNests.{IsSmallNest, dearest, settings}
 
 -- no area is a layout
 pub empty-layout : IsLayout []
@@ -148,7 +148,7 @@ setting-time : (inner : ℕ → Steps) (first count : ℕ) → time dearest (ste
 setting-time inner first zero = omega arith
 setting-time inner first (suc count) = omega (arith, setting-time inner (suc first) count)
 
-pub settings-are-small : (inner : ℕ → Steps) (count : ℕ) → count ≤ 10000 → IsSmall (steps_of inner (settings 0 count))
+pub settings-are-small : (inner : ℕ → Steps) (count : ℕ) → count ≤ 10000 → IsSmallNest (steps_of inner (settings 0 count))
 settings-are-small inner count few = record {
   counters = setting-counters inner 0 count;
   sets = setting-sets inner 0 count;
@@ -160,7 +160,7 @@ settings-are-small inner count few = record {
 
 -- ---- what emit requires of one nest
 
-pub ready-alone : (nest : Steps) (given : Given) → IsSmall nest → IsGiven given → IsFit nest given
+pub ready-alone : (nest : Steps) (given : Given) → IsSmallNest nest → IsGiven given → IsFit nest given
     → AreReady (max given.spill 0) ((nest, given) ∷ [])
 ready-alone nest given small is fit = (
   record {
@@ -175,8 +175,8 @@ ready-alone nest given small is fit = (
   tt,
 )
 
-pub cost-alone : AreFew → (nest : Steps) (given : Given) → IsSmall nest → total_cost ((nest, given) ∷ []) ≤ 245760
+pub cost-alone : AreFew → (nest : Steps) (given : Given) → IsSmallNest nest → total_cost ((nest, given) ∷ []) ≤ 245760
 cost-alone few nest given small = omega (arith, cost-most few given nest, small.cost)
 
-pub time-alone : AreFew → (nest : Steps) (given : Given) → IsSmall nest → total_time ((nest, given) ∷ []) ≤ 2 ^ 50
+pub time-alone : AreFew → (nest : Steps) (given : Given) → IsSmallNest nest → total_time ((nest, given) ∷ []) ≤ 2 ^ 50
 time-alone few nest given small = omega (arith, time-most few given nest, small.time)

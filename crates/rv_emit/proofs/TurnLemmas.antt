@@ -16,13 +16,15 @@ use Rattle.rv_steps.specs.Pieces.{StandsAt}
 use Rattle.rv_steps.specs.Wrapped.{wrapped}
 use Rattle.rv_emit.specs.Counting.{gone_on, run_counting}
 use Rattle.rv_emit.specs.Emitting.{Plan, back, count_by, count_lines, emitted, home_at, last_count, owed_after, settled, turn_of}
+use Rattle.rv_emit.specs.Handling.{Fetching, Putting}
+use Rattle.rv_emit.specs.MachineLaws.{MachineLaws}
 use Rattle.rv_emit.specs.Moving.{register_of, settle_lines}
 use Rattle.rv_emit.specs.Showing.{AreHomes, AreTouches, IsSetting, Shows}
-use Rattle.rv_emit.specs.Simulating.{is_steady}
+use Rattle.rv_emit.specs.Simulating.{Settling, is_steady}
 use Rattle.rv_emit.proofs.CountingLemmas.{ActionLaws, Grows, Turned, body-turned, count-step, count_at, counting-grows, counting-many, gone-turned, repeated-many}
 use Rattle.rv_emit.proofs.JumpLemmas.{goes-back, jumped-keeps, shows-idle}
 use Rattle.rv_emit.proofs.LoopLemmas.{Counted, count-on, setting-for, touched-before}
-use Rattle.rv_emit.proofs.SimulateLemmas.{Fetched, Laws, Put, Settled, Way, Within, length-of-three, ran-then, shows-fewer, way-of, way-ran, way-same, way-then}
+use Rattle.rv_emit.proofs.SimulateLemmas.{Way, Within, length-of-three, ran-then, shows-fewer, way-of, way-ran, way-same, way-then}
 
 -- ---- a list that owes nothing behind it
 
@@ -43,7 +45,7 @@ OwnWay lines plan base words list keys = (top : ℕ) (state : State) (c : Config
     (owed_after plan [] list) keys
     state (run_counting plan.down list state) c
 
-pub list-way : (laws : Laws) (settle : Settled) (lines : List Line) (plan : Plan) (base words : ℕ) (list : Steps) (keys : Keys)
+pub list-way : (laws : MachineLaws) (settle : Settling) (lines : List Line) (plan : Plan) (base words : ℕ) (list : Steps) (keys : Keys)
     → IsSetting plan base words → AreHomes plan.spill (owed_after plan [] list)
     → OwnWay lines plan base words list keys → ListWay lines plan base words list keys
 list-way laws settle lines plan base words list keys setting homes own top state c many fit shows stands pc touches =
@@ -105,7 +107,7 @@ down-test turns count a b h k = grind (arith, nat_tests)
 up-test : (turns count a b : ℕ) → count ≤ turns → a ≡ count → b ≡ turns → not (a == b) ≡ nat_lt count turns
 up-test turns count a b h k l = grind (arith, nat_tests)
 
-goes-on : (laws : Laws) (down : Bool) (turns count a b : ℕ) → count ≤ turns → turns < 2 ^ 63
+goes-on : (laws : MachineLaws) (down : Bool) (turns count a b : ℕ) → count ≤ turns → turns < 2 ^ 63
     → a ≡ wrapped (if down then pos (turns - count) else pos count) → b ≡ (if down then 0 else turns) → not (a == b) ≡ nat_lt count turns
 goes-on laws true turns count a b within few h k =
     let is : a ≡ turns - count = h ∙ laws.natural (turns - count) (omega (arith, few)) in
@@ -115,7 +117,7 @@ goes-on laws false turns count a b within few h k =
 
 -- ---- one turn, and so many
 
-module _ (laws : Laws) (acts : ActionLaws) (fetch : Fetched) (put : Put) (lines : List Line) (plan : Plan) (base words : ℕ)
+module _ (laws : MachineLaws) (acts : ActionLaws) (fetch : Fetching) (put : Putting) (lines : List Line) (plan : Plan) (base words : ℕ)
     (setting : IsSetting plan base words)
     (counter turns top : ℕ) (body : Steps) (head : Keys) (some : IsSome (home_of plan.homes (Register counter)))
     (apart : SetsApart (home_of plan.homes) (Register counter ∷ []) head) (known : head (Register counter) ≡ true)

@@ -1,14 +1,14 @@
 -- The lines of reads and writes do what these do.
-use Rattle.std.specs.Prelude.{◌≡◌, ◌≢◌, ℕ, ◌+◌, ◌*◌, ◌%◌, ◌^◌, ◌<◌, ◌≤◌, Bool, true, false, ◌||◌, ℤ, pos, negsuc, ◌+ℤ◌, ◌-ℤ◌, ◌*ℤ◌, All}
+use Rattle.std.specs.Prelude.{◌≡◌, ℕ, ◌+◌, ◌*◌, ◌^◌, ◌<◌, ◌≤◌, Bool, true, false, ◌||◌, ℤ, pos, negsuc, ◌+ℤ◌, ◌-ℤ◌, ◌*ℤ◌}
 use Rattle.std.specs.Prelude.{List, [], ◌∷◌, ◌++◌, length, Some, if◌then◌else◌, slice_get, slice_set}
-use Rattle.std.specs.Int.{Width, byte_len, w64}
+use Rattle.std.specs.Int.{w64}
 use Rattle.std.proofs.Common.{refl, sym, ap, subst, ◌∙◌, arith}
 use Rattle.std.proofs.lemmas.Bool.Decides.{nat_tests}
 use Rattle.std.proofs.lemmas.Int.{ints}
 use Rattle.std.proofs.lemmas.List.{length-set}
 use Rattle.std.proofs.lemmas.Option.{get_or_from_slice_get}
 use Rattle.loop_ir.specs.Needed.{Keys, among, needed}
-use Rattle.loop_ir.specs.Running.{Key, Register, Pointer, State, Reads, Writes, acted, is_key, with_word, word_at}
+use Rattle.loop_ir.specs.Running.{Key, Register, Pointer, State, ReadsWord, WritesWord, acted, is_key, with_word, word_at}
 use Rattle.loop_ir.specs.Steps.{End, Then, Read, Write}
 use Rattle.register_map.specs.declared.home.Home.{Home}
 use Rattle.register_map.specs.declared.home.Home.TheVariants as home
@@ -21,59 +21,23 @@ use Rattle.rv_line.specs.declared.line.Store.{Store}
 use Rattle.rv_steps.specs.Constants.{is_signed_below}
 use Rattle.rv_steps.specs.Effects.{signed_value}
 use Rattle.rv_steps.specs.Good.{values_at}
-use Rattle.rv_steps.specs.Machine.{Config, Goes, IsAt, Loads, Stores, address, address_of, next_step, register_at, value_at, with_result}
+use Rattle.rv_steps.specs.Machine.{Config, IsAt, Loads, Stores, address, address_of, register_at, value_at, with_result}
 use Rattle.rv_steps.specs.Machine.{with_value}
 use Rattle.rv_steps.specs.Pieces.{StandsAt}
 use Rattle.rv_steps.specs.Registers.{is_among}
 use Rattle.rv_steps.specs.Wrapped.{wrapped}
 use Rattle.rv_emit.specs.Emitting.{Plan, home_at, is_offset, near_lines, near_owed, offset}
-use Rattle.rv_emit.specs.Handling.{Changes, Runs}
+use Rattle.rv_emit.specs.Handling.{Fetching, Putting, Repaying}
+use Rattle.rv_emit.specs.MachineLaws.{MachineLaws}
 use Rattle.rv_emit.specs.Moving.{fetch_lines, put_lines, register_of, repay_lines}
 use Rattle.rv_emit.specs.Showing.{AreInOrder, HasBlock, IsSetting, Shows, held_in, is_whole}
 use Rattle.rv_emit.specs.Simulating.{ActionSimulates}
 use Rattle.rv_emit.specs.Walks.{Owed, bytes, owed_at, without}
 use Rattle.rv_emit.proofs.PlaceNumberLemmas.{key-same, signed-wrapped, sum-bytes, without-same, wrapped-below, wrapped-signed}
-use Rattle.rv_emit.proofs.PlaceRunLemmas.{Laws, Made, Still, did-before, did-put, did-simulates, given-range, is-at, made-line, made-none}
-use Rattle.rv_emit.proofs.PlaceRunLemmas.{made-runs, own-register, still-agrees, still-block, still-then, still-written}
-use Rattle.rv_emit.proofs.PlaceShowLemmas.{among-one, home-there, read-before, shown-same, shows-changed, wanted-before}
-
--- ---- the laws on which this stands, besides those of places
-
-abbrev pub Repaying : Type 0
-Repaying = (lines : List Line) (base spill words at : ℕ) (home : Home) (owed held : ℤ) (c : Config)
-    → base % 8 ≡ 0 → base + 8 * (spill + words) ≤ 2 ^ 64 → spill ≤ 134217728 → HasBlock base spill words c → IsHome spill home
-    → StandsAt lines at (repay_lines home owed) → c.pc ≡ address_of at → held_in c home ≡ wrapped held
-    → (run : Runs lines base spill at (repay_lines home owed) c)
-    × Changes base spill words home (wrapped (held +ℤ pos 8 *ℤ owed)) c run.last
-
-pub record WordLaws : Type 0 where
-  pub reach : (registers : List ℕ) (r : ℕ) (z imm : ℤ) → register_at registers r ≡ wrapped z → IsImmediate imm
-      → address registers r imm ≡ wrapped (z +ℤ imm)
-  pub load : (lines : List Line) (base k : ℕ) (c : Config) (to : ℕ) (imm : ℤ) (pointer place : ℕ)
-      → IsAt lines k (Line.Load Load.Ld to imm pointer) c → base % 8 ≡ 0
-      → address c.registers pointer imm ≡ base + 8 * place → 8 * place + 8 ≤ length c.block
-      → next_step lines base c ≡ Goes (with_result c to (value_at w64 c.block (8 * place)))
-  pub store : (lines : List Line) (base k : ℕ) (c : Config) (from : ℕ) (imm : ℤ) (pointer place : ℕ)
-      → IsAt lines k (Line.Store Store.Sd from imm pointer) c → base % 8 ≡ 0
-      → address c.registers pointer imm ≡ base + 8 * place → 8 * place + 8 ≤ length c.block
-      → next_step lines base c ≡ Goes (record c {
-        pc = c.pc + 4;
-        block =
-            with_value w64 c.block (8 * place) (register_at c.registers from);
-      })
-  pub value : (block : List ℕ) (word count i : ℕ) → i < count → slice_get (values_at block word count) i
-      ≡ Some (signed_value (value_at w64 block (8 * (word + i))))
-  pub inside : (block : List ℕ) (word count i value : ℕ) → i < count → 8 * (word + i) + 8 ≤ length block
-      → value < 2 ^ 64 → values_at (with_value w64 block (8 * (word + i)) value) word count
-      ≡ slice_set (values_at block word count) i (signed_value value)
-  pub other : (block : List ℕ) (i j value : ℕ) → 8 * i + 8 ≤ length block → i ≢ j
-      → value_at w64 (with_value w64 block (8 * i) value) (8 * j) ≡ value_at w64 block (8 * j)
-  pub len : (w : Width) (block : List ℕ) (place value : ℕ) → place + byte_len w ≤ length block
-      → length (with_value w block place value) ≡ length block
-  pub bytes : (w : Width) (block : List ℕ) (place value : ℕ) → All (λ b. b < 256) block
-      → All (λ b. b < 256) (with_value w block place value)
-  pub word : (block : List ℕ) (place : ℕ) → All (λ b. b < 256) block → value_at w64 block place < 2 ^ 64
-  pub repay : Repaying
+use Rattle.rv_emit.proofs.PlaceRunLemmas.{Made, did-before, did-put, did-simulates, given-range, is-at, made-line, made-none}
+use Rattle.rv_emit.proofs.PlaceRunLemmas.{made-runs, own-register, still-agrees, still-written}
+use Rattle.rv_emit.proofs.ShowLemmas.{among-one, home-there, read-before, shown-same, shows-changed, wanted-before}
+use Rattle.rv_emit.proofs.SimulateLemmas.{KeepsBut, block-kept, keeps-on}
 
 -- ---- the address of a word
 
@@ -82,7 +46,7 @@ immediate (pos n) h = let small : n < 2048 = grind (arith, nat_tests) in record 
 immediate (negsuc n) h = let small : n < 2048 = grind (arith, nat_tests) in record { low = omega (arith, ints); high = omega (arith, ints) }
 
 -- from the number in the home, the offset leads to the word of the place
-near-address : WordLaws → (plan : Plan) (base : ℕ) (owed : Owed) (from : Home) (held : ℤ) (registers : List ℕ) (r : ℕ)
+near-address : MachineLaws → (plan : Plan) (base : ℕ) (owed : Owed) (from : Home) (held : ℤ) (registers : List ℕ) (r : ℕ)
     → register_at registers r ≡ wrapped (pos base +ℤ pos 8 *ℤ (pos plan.spill +ℤ (held -ℤ owed_at (near_owed owed from) from)))
     → address registers r (offset owed from) ≡ wrapped (pos base +ℤ pos 8 *ℤ (pos plan.spill +ℤ held))
 near-address laws plan base owed from held registers r = by (is_offset (owed_at owed from)) refl
@@ -119,13 +83,13 @@ record Near (lines : List Line) (plan : Plan) (base at : ℕ) (early : Keys) (st
   made : Made lines base plan.spill at piece [] c last
   shows : Shows plan base owing early state last
 
-comes-near : Laws → WordLaws → (lines : List Line) (plan : Plan) (base at : ℕ) (owed : Owed) (early : Keys) (state : State) (place : ℕ)
-    (from : Home) (c : Config)
+comes-near : MachineLaws → Repaying → (lines : List Line) (plan : Plan) (base at : ℕ) (owed : Owed) (early : Keys) (state : State)
+    (place : ℕ) (from : Home) (c : Config)
     → IsSetting plan base (length state.words) → home_of plan.homes (Pointer place) ≡ Some from → early (Pointer place) ≡ true
     → AreApart (home_of plan.homes) early → Shows plan base owed early state c → StandsAt lines at (near_lines owed from)
     → c.pc ≡ address_of at
     → Near lines plan base at early state c (near_lines owed from) (near_owed owed from)
-comes-near laws more lines plan base at owed early state place from c setting on read apart shows = by (is_offset (owed_at owed from)) refl
+comes-near laws repay lines plan base at owed early state place from c setting on read apart shows = by (is_offset (owed_at owed from)) refl
   where
     by : (b : Bool) → is_offset (owed_at owed from) ≡ b
         → StandsAt lines at (if b then [] else repay_lines from (owed_at owed from)) → c.pc ≡ address_of at
@@ -137,8 +101,8 @@ comes-near laws more lines plan base at owed early state place from c setting on
         let held = state.held (Pointer place) in
         let z = pos base +ℤ pos 8 *ℤ (pos plan.spill +ℤ (held -ℤ o)) in
         let sum : z +ℤ pos 8 *ℤ o ≡ pos base +ℤ pos 8 *ℤ (pos plan.spill +ℤ (held -ℤ pos 0)) = omega (arith, ints) in
-        let paid = more.repay lines base plan.spill (length state.words) at from o z c setting.aligned setting.room setting.few
-        shows.block (setting.homes (Pointer place) from on) stands pc
+        let paid = repay lines base plan.spill (length state.words) at from o z c setting.room shows.block
+        (setting.homes (Pointer place) from on) stands pc
         (shows.held (Pointer place) from read on) in
         record {
           last = paid.0.last;
@@ -155,18 +119,18 @@ far-word : (base spill place : ℕ) → is_whole base spill (base + 8 * (spill +
 far-word base spill place = grind (arith, nat_tests)
 
 load-order : (base spill area at place : ℕ) (word : ℤ) → at ≡ base + 8 * (spill + place) → word ≡ pos place
-    → AreInOrder base spill (Loads at 8 ∷ []) (Reads area word ∷ [])
+    → AreInOrder base spill (Loads at 8 ∷ []) (ReadsWord area word ∷ [])
 load-order base spill area at place word e f = let far = far-word base spill place in rw (e, f, far) refl
 
 store-order : (base spill area at place : ℕ) (word : ℤ) → at ≡ base + 8 * (spill + place) → word ≡ pos place
-    → AreInOrder base spill (Stores at 8 ∷ []) (Writes area word ∷ [])
+    → AreInOrder base spill (Stores at 8 ∷ []) (WritesWord area word ∷ [])
 store-order base spill area at place word e f = let far = far-word base spill place in rw (e, f, far) refl
 
 -- ---- a read
 
-pub read-simulates : Laws → WordLaws → (to area place : ℕ) → ActionSimulates (Read to area place)
-read-simulates laws more to area place lines plan base at owed keys state c setting fits set owing there apart sets shows stands pc
-    touches =
+pub read-simulates : MachineLaws → Fetching → Putting → Repaying → (to area place : ℕ) → ActionSimulates (Read to area place)
+read-simulates laws fetching put repay to area place lines plan base at owed keys state c setting fits set owing there apart sets shows
+    stands pc touches =
     let home = home_at plan (Register to) in
     let from = home_at plan (Pointer place) in
     let r = register_of 30 home in
@@ -185,17 +149,17 @@ read-simulates laws more to area place lines plan base at owed keys state c sett
     let n = length state.words in
     let touch = touches.0 in
     let i = touch.place in
-    let room = setting.room in
+    let room = setting.room.within in
     let within = touch.within in
     -- the place
-    let near = comes-near laws more lines plan base at owed early state place from c setting on-from read apart shows
+    let near = comes-near laws repay lines plan base at owed early state place from c setting on-from read apart shows
     (laws.front lines at (near_lines owed from) (fetch_lines 30 from ++ (load ∷ put_lines home)) stands) pc in
     let c0 = near.last in
     let owes = near_owed owed from in
     let k0 = at + length (near_lines owed from) in
     let stands0 = laws.back lines at (near_lines owed from) (fetch_lines 30 from ++ (load ∷ put_lines home)) stands in
     -- its register
-    let fetch = laws.fetch lines base plan.spill n k0 30 from c0 setting.aligned setting.room setting.few near.shows.block is-from
+    let fetch = fetching lines base plan.spill n k0 30 from c0 setting.room near.shows.block is-from
     (omega arith) (omega arith)
     (laws.front lines k0 (fetch_lines 30 from) (load ∷ put_lines home) stands0) near.made.behind in
     let c1 = fetch.run.last in
@@ -205,45 +169,45 @@ read-simulates laws more to area place lines plan base at owed keys state c sett
     let still1 = still-agrees r 30 c0 c1 (omega arith) fetch.others fetch.block in
     let count1 : length c1.registers ≡ 32 = fetch.others.sized ∙ near.shows.block.count in
     let to-word : address c1.registers f (offset owed from) ≡ base + 8 * (plan.spill + i) =
-    near-address more plan base owed from word c1.registers f (fetch.value ∙ near.shows.held (Pointer place) from read on-from)
+    near-address laws plan base owed from word c1.registers f (fetch.value ∙ near.shows.held (Pointer place) from read on-from)
     ∙ word-address base plan.spill i word touch.same (omega (arith, room, within)) in
     let sized1 : length c1.block ≡ 8 * (plan.spill + n) = ap (λ block. length block) fetch.block ∙ near.shows.block.sized in
     -- the word
     let v = value_at w64 c1.block (8 * (plan.spill + i)) in
     let is : IsAt lines k1 load c1 = is-at laws lines base plan.spill k1 load (put_lines home) c1 stands1 fetch.run.behind in
-    let goes = more.load lines base k1 c1 r (offset owed from) f (plan.spill + i) is setting.aligned to-word
+    let goes = laws.load lines base k1 c1 r (offset owed from) f (plan.spill + i) is setting.room.aligned to-word
     (omega (arith, sized1, within)) in
     let c2 = with_result c1 r v in
-    let made2 = made-line laws lines base plan.spill k1 load (Reads area word ∷ []) c1 c2 is goes (omega (arith, fetch.run.behind))
+    let made2 = made-line laws lines base plan.spill k1 load (ReadsWord area word ∷ []) c1 c2 is goes (omega (arith, fetch.run.behind))
     (load-order base plan.spill area (address c1.registers f (offset owed from)) i word to-word touch.same) in
     let still2 = still-written laws r r v (c1.pc + 4) c1 (λ n far below. far) in
-    let here : register_at c2.registers r ≡ v = laws.same c1.registers r v own.some (omega (arith, own.below, count1)) in
-    let small : v < 2 ^ 64 = rw fetch.block (more.word c0.block (8 * (plan.spill + i)) near.shows.block.bytes) in
+    let here : register_at c2.registers r ≡ v = laws.set c1.registers r v own.some (omega (arith, own.below, count1)) in
+    let small : v < 2 ^ 64 = rw fetch.block (laws.small_word c0.block (8 * (plan.spill + i)) near.shows.block.bytes) in
     let listed : values_at c1.block plan.spill n ≡ state.words = ap (λ block. values_at block plan.spill n) fetch.block
     ∙ near.shows.words in
     let got : word_at state.words word ≡ signed_value v =
     ap (λ w. word_at state.words w) touch.same
     ∙ get_or_from_slice_get state.words i (signed_value v) (pos 0)
-    (ap (λ list. slice_get list i) (sym listed) ∙ more.value c1.block plan.spill n i within) in
+    (ap (λ list. slice_get list i) (sym listed) ∙ laws.value c1.block plan.spill n i within) in
     let held : v ≡ wrapped (word_at state.words word) = sym (wrapped-signed v small) ∙ ap wrapped (sym got) in
     let before = did-before laws lines plan base (without owes home) keys after in
-    let put = did-put laws lines plan base owes early keys state after c0 c2 (Register to) home
+    let done = did-put laws put lines plan base owes early keys state after c0 c2 (Register to) home
     setting on
     (λ other want e. sets (Register to) other (among-one (Register to) (Register to) ∙ key-same (Register to)) want e)
     (λ other want out. wanted-before (Pointer place ∷ []) (Register to ∷ []) keys other want (among-one other (Register to) ∙ out))
-    (λ other out. rw out refl) refl near.shows (still-then r c0 c1 c2 still1 still2)
+    (λ other out. rw out refl) refl near.shows (keeps-on r c0 c1 c2 still1 still2)
     (here ∙ held ∙ rw (key-same (Register to)) refl)
     (k1 + 1) (laws.back lines k1 (load ∷ []) (put_lines home) stands1) made2.behind in
-    did-simulates laws lines plan base (without owes home) keys after at _ (Reads area word ∷ []) true state c refl
-    (before at (near_lines owed from) (fetch_lines 30 from ++ (load ∷ put_lines home)) [] (Reads area word ∷ []) c c0 near.made
-    (before k0 (fetch_lines 30 from) (load ∷ put_lines home) [] (Reads area word ∷ []) c0 c1 made1
-    (before k1 (load ∷ []) (put_lines home) (Reads area word ∷ []) [] c1 c2 made2 put)))
+    did-simulates laws lines plan base (without owes home) keys after at _ (ReadsWord area word ∷ []) true state c refl
+    (before at (near_lines owed from) (fetch_lines 30 from ++ (load ∷ put_lines home)) [] (ReadsWord area word ∷ []) c c0 near.made
+    (before k0 (fetch_lines 30 from) (load ∷ put_lines home) [] (ReadsWord area word ∷ []) c0 c1 made1
+    (before k1 (load ∷ []) (put_lines home) (ReadsWord area word ∷ []) [] c1 c2 made2 done)))
 
 -- ---- a write
 
 -- what each home holds stays where no home's register was written
-kept-held : (spill : ℕ) (other : Home) (c d : Config) → Still 30 c d → IsHome spill other → held_in d other ≡ held_in c other
-kept-held spill (home.Register n) c d still is = still.same n (λ e. omega (arith, e, given-range n is)) (omega (arith, given-range n is))
+kept-held : (spill : ℕ) (other : Home) (c d : Config) → KeepsBut 30 c d → IsHome spill other → held_in d other ≡ held_in c other
+kept-held spill (home.Register n) c d still is = still.same n (omega (arith, given-range n is)) (λ e. omega (arith, e, given-range n is))
 kept-held spill (home.Spill word) c d still is = ap (λ block. value_at w64 block (8 * word)) still.block
 
 -- the first key and the second one are among two
@@ -261,17 +225,17 @@ among-second key other = rw (key-same key) (either (is_key key other))
 among-none : (r : ℕ) → r ≤ 28 → is_among r (30 ∷ 31 ∷ []) ≡ false
 among-none r most = grind (arith, nat_tests)
 
-module _ (laws : WordLaws) (plan : Plan) (base : ℕ) (owed : Owed) (early keys : Keys) (state after : State) (c d : Config) (i value : ℕ)
+module _ (laws : MachineLaws) (plan : Plan) (base : ℕ) (owed : Owed) (early keys : Keys) (state after : State) (c d : Config) (i value : ℕ)
     (x : ℤ)
     (setting : IsSetting plan base (length state.words)) (wanted : (key : Key) → keys key ≡ true → early key ≡ true)
     (same : (key : Key) → after.held key ≡ state.held key) (words : after.words ≡ slice_set state.words i x)
     (within : i < length state.words)
-    (small : value < 2 ^ 64) (signed : signed_value value ≡ x) (shows : Shows plan base owed early state c) (still : Still 30 c d) where
+    (small : value < 2 ^ 64) (signed : signed_value value ≡ x) (shows : Shows plan base owed early state c) (still : KeepsBut 30 c d) where
   abbrev stored : Config
   stored = record d { pc = d.pc + 4; block = with_value w64 d.block (8 * (plan.spill + i)) value }
 
   has-block : HasBlock base plan.spill (length state.words) d
-  has-block = still-block base plan.spill (length state.words) 30 c d (λ e. omega (arith, e)) still shows.block
+  has-block = block-kept base plan.spill (length state.words) 30 c d (λ e. omega (arith, e)) still shows.block
 
   inside : 8 * (plan.spill + i) + 8 ≤ length d.block
   inside = omega (arith, has-block.sized, within)
@@ -283,7 +247,7 @@ module _ (laws : WordLaws) (plan : Plan) (base : ℕ) (owed : Owed) (early keys 
   stored-block = record {
     count = has-block.count;
     bytes = laws.bytes w64 d.block (8 * (plan.spill + i)) value has-block.bytes;
-    sized = laws.len w64 d.block (8 * (plan.spill + i)) value inside ∙ has-block.sized;
+    sized = laws.sized w64 d.block (8 * (plan.spill + i)) value inside ∙ has-block.sized;
     block_at = has-block.block_at;
   }
 
@@ -296,7 +260,7 @@ module _ (laws : WordLaws) (plan : Plan) (base : ℕ) (owed : Owed) (early keys 
 
   stored-home : (other : Home) → IsHome plan.spill other → held_in stored other ≡ held_in d other
   stored-home (home.Register n) is = refl
-  stored-home (home.Spill word) is = laws.other d.block (plan.spill + i) word value inside (λ e. omega (arith, e, is))
+  stored-home (home.Spill word) is = laws.other_word d.block (plan.spill + i) word value inside (λ e. omega (arith, e, is))
 
   pub shows-stored : Shows plan base owed keys after stored
   shows-stored = record {
@@ -308,9 +272,9 @@ module _ (laws : WordLaws) (plan : Plan) (base : ℕ) (owed : Owed) (early keys 
     clear = λ number place want on. shows.clear number place (wanted (Register number) want) on;
   }
 
-pub write-simulates : Laws → WordLaws → (area place from : ℕ) → ActionSimulates (Write area place from)
-write-simulates laws more area place from lines plan base at owed keys state c setting fits set owing there apart sets shows stands pc
-    touches =
+pub write-simulates : MachineLaws → Fetching → Repaying → (area place from : ℕ) → ActionSimulates (Write area place from)
+write-simulates laws fetching repay area place from lines plan base at owed keys state c setting fits set owing there apart sets shows
+    stands pc touches =
     let home = home_at plan (Register from) in
     let to = home_at plan (Pointer place) in
     let s = register_of 28 home in
@@ -331,18 +295,18 @@ write-simulates laws more area place from lines plan base at owed keys state c s
     let n = length state.words in
     let touch = touches.0 in
     let i = touch.place in
-    let room = setting.room in
+    let room = setting.room.within in
     let within = touch.within in
     let tail = store ∷ [] in
     -- the place
-    let near = comes-near laws more lines plan base at owed early state place to c setting on-to read-to apart shows
+    let near = comes-near laws repay lines plan base at owed early state place to c setting on-to read-to apart shows
     (laws.front lines at (near_lines owed to) (fetch_lines 28 home ++ (fetch_lines 30 to ++ tail)) stands) pc in
     let c0 = near.last in
     let owes = near_owed owed to in
     let k0 = at + length (near_lines owed to) in
     let stands0 = laws.back lines at (near_lines owed to) (fetch_lines 28 home ++ (fetch_lines 30 to ++ tail)) stands in
     -- the number
-    let first = laws.fetch lines base plan.spill n k0 28 home c0 setting.aligned setting.room setting.few near.shows.block is-from
+    let first = fetching lines base plan.spill n k0 28 home c0 setting.room near.shows.block is-from
     (omega arith) (omega arith)
     (laws.front lines k0 (fetch_lines 28 home) (fetch_lines 30 to ++ tail) stands0) near.made.behind in
     let c1 = first.run.last in
@@ -350,10 +314,10 @@ write-simulates laws more area place from lines plan base at owed keys state c s
     let stands1 = laws.back lines k0 (fetch_lines 28 home) (fetch_lines 30 to ++ tail) stands0 in
     let made1 = made-runs laws lines base plan.spill k0 (fetch_lines 28 home) c0 first.run in
     let still1 = still-agrees 30 28 c0 c1 (omega arith) first.others first.block in
-    let block1 = still-block base plan.spill n 30 c0 c1 (λ e. omega (arith, e)) still1 near.shows.block in
+    let block1 = block-kept base plan.spill n 30 c0 c1 (λ e. omega (arith, e)) still1 near.shows.block in
     let value1 : register_at c1.registers s ≡ wrapped number = first.value ∙ near.shows.held (Register from) home read-from on-from in
     -- the register of the place
-    let second = laws.fetch lines base plan.spill n k1 30 to c1 setting.aligned setting.room setting.few block1 is-to (omega arith)
+    let second = fetching lines base plan.spill n k1 30 to c1 setting.room block1 is-to (omega arith)
     (omega arith)
     (laws.front lines k1 (fetch_lines 30 to) tail stands1) first.run.behind in
     let c2 = second.run.last in
@@ -361,10 +325,10 @@ write-simulates laws more area place from lines plan base at owed keys state c s
     let stands2 = laws.back lines k1 (fetch_lines 30 to) tail stands1 in
     let made2 = made-runs laws lines base plan.spill k1 (fetch_lines 30 to) c1 second.run in
     let still2 = still-agrees 30 30 c1 c2 (omega arith) second.others second.block in
-    let still = still-then 30 c0 c1 c2 still1 still2 in
+    let still = keeps-on 30 c0 c1 c2 still1 still2 in
     let value2 : register_at c2.registers s ≡ wrapped number = second.others.same s (among-none s own-from.most) ∙ value1 in
     let to-word : address c2.registers t (offset owed to) ≡ base + 8 * (plan.spill + i) =
-    near-address more plan base owed to word c2.registers t (second.value ∙ kept-held plan.spill to c0 c1 still1 is-to
+    near-address laws plan base owed to word c2.registers t (second.value ∙ kept-held plan.spill to c0 c1 still1 is-to
     ∙ near.shows.held (Pointer place) to read-to on-to)
     ∙ word-address base plan.spill i word touch.same (omega (arith, room, within)) in
     let sized2 : length c2.block ≡ 8 * (plan.spill + n) = ap (λ block. length block) still.block ∙ near.shows.block.sized in
@@ -372,18 +336,18 @@ write-simulates laws more area place from lines plan base at owed keys state c s
     let value = register_at c2.registers s in
     let c3 : Config = record c2 { pc = c2.pc + 4; block = with_value w64 c2.block (8 * (plan.spill + i)) value } in
     let is : IsAt lines k2 store c2 = is-at laws lines base plan.spill k2 store [] c2 stands2 second.run.behind in
-    let goes = more.store lines base k2 c2 s (offset owed to) t (plan.spill + i) is setting.aligned to-word
+    let goes = laws.store lines base k2 c2 s (offset owed to) t (plan.spill + i) is setting.room.aligned to-word
     (omega (arith, sized2, within)) in
-    let made3 = made-line laws lines base plan.spill k2 store (Writes area word ∷ []) c2 c3 is goes (omega (arith, second.run.behind))
+    let made3 = made-line laws lines base plan.spill k2 store (WritesWord area word ∷ []) c2 c3 is goes (omega (arith, second.run.behind))
     (store-order base plan.spill area (address c2.registers t (offset owed to)) i word to-word touch.same) in
     let small : value < 2 ^ 64 = rw value2 (wrapped-below number) in
     let signed : signed_value value ≡ number = ap signed_value value2 ∙ signed-wrapped number (fits.registers from) in
     let before = did-before laws lines plan base owes keys after in
-    let shows3 = shows-stored more plan base owes early keys state after c0 c2 i value number setting
+    let shows3 = shows-stored laws plan base owes early keys state after c0 c2 i value number setting
     (λ key want. wanted-before keys-read [] keys key want refl)
     (λ key. refl) (ap (λ w. with_word state.words w number) touch.same) within small signed near.shows still in
-    did-simulates laws lines plan base owes keys after at _ (Writes area word ∷ []) true state c refl
-    (before at (near_lines owed to) (fetch_lines 28 home ++ (fetch_lines 30 to ++ tail)) [] (Writes area word ∷ []) c c0 near.made
-    (before k0 (fetch_lines 28 home) (fetch_lines 30 to ++ tail) [] (Writes area word ∷ []) c0 c1 made1
-    (before k1 (fetch_lines 30 to) tail [] (Writes area word ∷ []) c1 c2 made2
+    did-simulates laws lines plan base owes keys after at _ (WritesWord area word ∷ []) true state c refl
+    (before at (near_lines owed to) (fetch_lines 28 home ++ (fetch_lines 30 to ++ tail)) [] (WritesWord area word ∷ []) c c0 near.made
+    (before k0 (fetch_lines 28 home) (fetch_lines 30 to ++ tail) [] (WritesWord area word ∷ []) c0 c1 made1
+    (before k1 (fetch_lines 30 to) tail [] (WritesWord area word ∷ []) c1 c2 made2
     (record { last = c3; made = made3; shows = shows3 }))))

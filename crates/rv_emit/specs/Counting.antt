@@ -29,6 +29,8 @@ abbrev pub run_counting : Keys → Steps → State → State
 run_counting down End state = state
 run_counting down (Then action rest) state = run_counting down rest (acted action state)
 run_counting down (For counter turns body rest) state =
-    run_counting down rest (repeated (λ before. gone_on down counter (run_counting down body before)) turns (begun down counter turns state))
+    run_counting down rest
+    (repeated (λ before. gone_on down counter (run_counting down body before)) turns (begun down counter turns state))
 run_counting down (If left below one other rest) state =
-    run_counting down rest (if int_lt (state.held (Register left)) below then run_counting down one state else run_counting down other state)
+    run_counting down rest
+    (if int_lt (state.held (Register left)) below then run_counting down one state else run_counting down other state)

@@ -1,5 +1,6 @@
 -- The lines to which nests are brought, and how many steps they make. This project's own.
-use Rattle.std.specs.Prelude.{ℕ, zero, suc, ◌+◌, ◌-◌, ◌*◌, max, Bool, ℤ, pos, negsuc, ◌+ℤ◌, List, [], ◌∷◌, ◌++◌, length, nat_le, if◌then◌else◌}
+use Rattle.std.specs.Prelude.{ℕ, zero, suc, ◌+◌, ◌-◌, ◌*◌, max, Bool, ℤ, pos, negsuc, ◌+ℤ◌, List, [], ◌∷◌, ◌++◌, length}
+use Rattle.std.specs.Prelude.{nat_le, if◌then◌else◌}
 use Rattle.std.specs.Option.{unwrap_or}
 use Rattle.loop_ir.specs.Needed.{Keys}
 use Rattle.loop_ir.specs.Running.{Key, Register, Pointer}
@@ -8,7 +9,8 @@ use Rattle.register_map.specs.declared.home.Home.{Home}
 use Rattle.register_map.specs.declared.home.Home.TheVariants as home
 use Rattle.register_map.specs.Homes.{Given, home_of}
 use Rattle.rv_line.specs.declared.line.Line.{Line}
-use Rattle.rv_line.specs.declared.line.Line.TheVariants.{Three as ThreeLine, Imm as ImmLine, Load as LoadLine, Store as StoreLine, Branch as BranchLine, Jal, Jalr}
+use Rattle.rv_line.specs.declared.line.Line.TheVariants.{Three as ThreeLine, Imm as ImmLine, Load as LoadLine, Store as StoreLine}
+use Rattle.rv_line.specs.declared.line.Line.TheVariants.{Branch as BranchLine, Jal, Jalr}
 use Rattle.rv_line.specs.declared.line.Three.TheVariants.{Add}
 use Rattle.rv_line.specs.declared.line.Imm.TheVariants.{Addi, Slli}
 use Rattle.rv_line.specs.declared.line.Load.TheVariants.{Ld}
@@ -82,7 +84,8 @@ action_lines plan at owed (Spot to word by) =
     let home = home_at plan (Pointer to) in
     let from = home_at plan (Register by) in
     fetch_lines 28 from ++ (constant_lines 30 (bytes (pos plan.spill +ℤ word))
-    ++ (ImmLine Slli 29 (register_of 28 from) (pos 3) ∷ ThreeLine Add 30 30 29 ∷ ThreeLine Add (register_of 30 home) 30 10 ∷ put_lines home))
+    ++ (ImmLine Slli 29 (register_of 28 from) (pos 3) ∷ ThreeLine Add 30 30 29
+    ∷ ThreeLine Add (register_of 30 home) 30 10 ∷ put_lines home))
 action_lines plan at owed (Walk place words) = []
 action_lines plan at owed (Read to area place) =
     let from = home_at plan (Pointer place) in
@@ -136,7 +139,8 @@ count_lines plan counter turns =
 abbrev pub last_count : Plan → ℕ → ℕ
 last_count plan counter = if plan.down (Register counter) then 0 else 31
 
--- back to the first of these lines where the registers differ. Each way takes one step where that line is in reach of a branch, and else two.
+-- back to the first of these lines where the registers differ. Each way takes one step where that line is in reach of a branch,
+-- and else two.
 abbrev pub is_in_reach : ℕ → ℕ → Bool
 is_in_reach top at = nat_le (at - top) 1024
 
@@ -192,9 +196,11 @@ owed_after plan owed (If left below one other rest) = owed_after plan [] rest
 -- steps from this line on, where this is owed
 abbrev pub emitted : Plan → Owed → Steps → ℕ → Piece
 emitted plan owed End at = straight []
-emitted plan owed (Then action rest) at = behind at (straight (action_lines plan at owed action)) (emitted plan (owed_by plan owed action) rest)
+emitted plan owed (Then action rest) at =
+    behind at (straight (action_lines plan at owed action)) (emitted plan (owed_by plan owed action) rest)
 emitted plan owed (For counter turns body rest) at =
-    behind at (loop_of plan at owed counter turns (λ top. behind top (emitted plan [] body top) (λ next. straight (settle_lines (owed_after plan [] body)))))
+    behind at (loop_of plan at owed counter turns
+    (λ top. behind top (emitted plan [] body top) (λ next. straight (settle_lines (owed_after plan [] body)))))
     (emitted plan [] rest)
 emitted plan owed (If left below one other rest) at =
     behind at (choice_of plan at owed left below

@@ -2,8 +2,8 @@ pub mod Computing
 pub mod Counting
 pub mod EmitExamples
 pub mod Emitting
-pub mod Fills
 pub mod Handling
+pub mod MachineLaws
 pub mod Moving
 pub mod Pricing
 pub mod Programs

@@ -1,5 +1,6 @@
--- Lines between homes and registers. x28 to x31 are free within a step: x28 and x29 take what is read, x30 what is to be put and addresses, x31
--- the addresses of far spill words and constants. x10 holds the address of the block, which the spill words begin. This project's own.
+-- Lines between homes and registers: those that fetch a home, put one, and repay what it owes. This project's own.
+-- x28 to x31 are free within a step: x28 and x29 take what is read, x30 what is to be put and addresses, x31 the addresses of far
+-- spill words and constants. x10 holds the address of the block, which the spill words begin.
 use Rattle.std.specs.Prelude.{ℕ, ◌*◌, Bool, ℤ, pos, List, [], ◌∷◌, ◌++◌, nat_lt, if◌then◌else◌}
 use Rattle.std.specs.Ordering.{int_eq}
 use Rattle.std.specs.List.{flat_map}

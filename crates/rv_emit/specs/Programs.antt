@@ -9,7 +9,7 @@ use Rattle.loop_ir.specs.Kept.{EachNamed}
 use Rattle.loop_ir.specs.Pool.{tree, tree_at, trees_from}
 use Rattle.loop_ir.specs.Needed.{reads}
 use Rattle.loop_ir.specs.Running.{Key, Pointer, Register}
-use Rattle.loop_ir.specs.Steps.{Set, Copy, One, Two, Place, Spot, Walk, Read, Write, Steps, End, Then, For, If}
+use Rattle.loop_ir.specs.Steps.{Action, Set, Copy, One, Two, Place, Spot, Walk, Read, Write, Steps, End, Then, For, If}
 use Rattle.register_map.specs.Homes.{Given, home_of}
 use Rattle.rv_line.specs.declared.line.Line.{Line}
 use Rattle.rv_emit.specs.Emitting.{Piece, Plan, action_lines, plan_of}
@@ -40,6 +40,10 @@ list_tree site number = tree_at (trees_from 0 site.lists) number
 -- each register and place that steps name has a home
 abbrev pub HaveHomes : Given → Steps → Type 0
 HaveHomes homes steps = EachNamed (λ key. IsSome (home_of homes key)) steps
+
+-- the lines of an action come behind others, where this is owed
+abbrev pub Pushes : Plan → Action → Owed → List Line → List Line → Type 0
+Pushes plan action owed before after = after ≡ before ++ action_lines plan (length before) owed action
 
 -- the lines of a step that does no list
 abbrev pub step_lines : Plan → ℕ → Owed → Step → List Line

@@ -1,9 +1,11 @@
 -- Configurations that show states: where homes hold what is needed, and the block the words of all areas. This project's own.
-use Rattle.std.specs.Prelude.{◌≡◌, ℕ, ◌+◌, ◌*◌, ◌%◌, ◌^◌, ◌<◌, ◌≤◌, Bool, true, not, ◌&&◌, ◌==◌, ℤ, pos, ◌+ℤ◌, ◌-ℤ◌, ◌*ℤ◌, All, List, length, map, filter, reverse, Some, unsigned_abs}
+use Rattle.std.specs.Prelude.{◌≡◌, ℕ, ◌+◌, ◌*◌, ◌%◌, ◌^◌, ◌<◌, ◌≤◌, Bool, true, not, ◌&&◌, ◌==◌, ℤ, pos, ◌+ℤ◌, ◌-ℤ◌, ◌*ℤ◌, All}
+use Rattle.std.specs.Prelude.{List, length, map, filter, reverse, Some, unsigned_abs}
 use Rattle.std.specs.List.{AllByRecursion}
 use Rattle.std.specs.Int.{w64}
+use Rattle.shapes_core.specs.Limits.{most_words}
 use Rattle.loop_ir.specs.Needed.{Keys}
-use Rattle.loop_ir.specs.Running.{Access as Touch, Key, Pointer, Reads, Register, State, Writes}
+use Rattle.loop_ir.specs.Running.{Access as Touch, Key, Pointer, ReadsWord, Register, State, WritesWord}
 use Rattle.register_map.specs.declared.home.Home.{Home}
 use Rattle.register_map.specs.declared.home.Home.TheVariants as home
 use Rattle.register_map.specs.Homes.{IsHome, home_of}
@@ -15,12 +17,20 @@ use Rattle.rv_emit.specs.Walks.{Owed, owed_at}
 
 -- ---- where lines run
 
--- a block at this address with room for the spill words and so many words of areas, and homes that are there
-pub record IsSetting (plan : Plan) (base words : ℕ) : Type 0 where
+-- an address of words, with room for so many spill words and words of areas
+pub record HasRoom (base spill words : ℕ) : Type 0 where
   pub aligned : base % 8 ≡ 0
-  pub room : base + 8 * (plan.spill + words) ≤ 2 ^ 64
-  pub few : plan.spill ≤ 134217728
-  pub homes : (key : Key) (home : Home) → home_of plan.homes key ≡ Some home → IsHome plan.spill home
+  pub within : base + 8 * (spill + words) ≤ 2 ^ 64
+  pub few : spill ≤ most_words
+
+-- each home lies where homes may
+abbrev pub HomesLie : Plan → Type 0
+HomesLie plan = (key : Key) (home : Home) → home_of plan.homes key ≡ Some home → IsHome plan.spill home
+
+-- room for a block at this address, and homes that are there
+pub record IsSetting (plan : Plan) (base words : ℕ) : Type 0 where
+  pub room : HasRoom base plan.spill words
+  pub homes : HomesLie plan
 
 -- 32 registers, and a block of bytes of that size, whose address x10 holds
 pub record HasBlock (base spill words : ℕ) (c : Config) : Type 0 where
@@ -50,8 +60,10 @@ shown plan base owed state (Pointer number) home =
 pub record Shows (plan : Plan) (base : ℕ) (owed : Owed) (keys : Keys) (state : State) (c : Config) : Type 0 where
   pub block : HasBlock base plan.spill (length state.words) c
   pub words : values_at c.block plan.spill (length state.words) ≡ state.words
-  pub held : (key : Key) (home : Home) → keys key ≡ true → home_of plan.homes key ≡ Some home → held_in c home ≡ shown plan base owed state key home
-  pub clear : (number : ℕ) (home : Home) → keys (Register number) ≡ true → home_of plan.homes (Register number) ≡ Some home → owed_at owed home ≡ pos 0
+  pub held : (key : Key) (home : Home) → keys key ≡ true → home_of plan.homes key ≡ Some home
+      → held_in c home ≡ shown plan base owed state key home
+  pub clear : (number : ℕ) (home : Home) → keys (Register number) ≡ true → home_of plan.homes (Register number) ≡ Some home
+      → owed_at owed home ≡ pos 0
 
 -- ---- loads and stores
 
@@ -66,8 +78,8 @@ is_spill base spill (Stores at size) = is_whole base spill at size
 
 -- the load or store of an access of a nest
 abbrev pub access_of : ℕ → ℕ → Touch → Access
-access_of base spill (Reads area word) = Loads (base + 8 * (spill + unsigned_abs word)) 8
-access_of base spill (Writes area word) = Stores (base + 8 * (spill + unsigned_abs word)) 8
+access_of base spill (ReadsWord area word) = Loads (base + 8 * (spill + unsigned_abs word)) 8
+access_of base spill (WritesWord area word) = Stores (base + 8 * (spill + unsigned_abs word)) 8
 
 -- besides those of spill words, the loads and stores are in order the accesses of a nest, of which the last one stands first
 abbrev pub AreInOrder : ℕ → ℕ → List Access → List Touch → Type 0
@@ -81,8 +93,8 @@ pub record IsWord (words : ℕ) (word : ℤ) : Type 0 where
   pub within : place < words
 
 abbrev pub IsTouch : ℕ → Touch → Type 0
-IsTouch words (Reads area word) = IsWord words word
-IsTouch words (Writes area word) = IsWord words word
+IsTouch words (ReadsWord area word) = IsWord words word
+IsTouch words (WritesWord area word) = IsWord words word
 
 abbrev pub AreTouches : ℕ → State → Type 0
 AreTouches words state = AllByRecursion (IsTouch words) state.trace

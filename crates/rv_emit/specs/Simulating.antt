@@ -3,13 +3,13 @@ use Rattle.std.specs.Prelude.{◌≡◌, ℕ, ◌+◌, ◌≤◌, Bool, true, fa
 use Rattle.std.specs.List.{AllByRecursion, list_all}
 use Rattle.loop_ir.specs.Costs.{named}
 use Rattle.loop_ir.specs.Fitting.{Fits64, HoldsFit, SetFits, SetsFit}
-use Rattle.loop_ir.specs.Kept.{KeepsCounters}
+use Rattle.loop_ir.specs.Kept.{EachNamed, KeepsCounters}
 use Rattle.moa_tree.specs.declared.operator.Op.{Op}
 use Rattle.moa_tree.specs.declared.operator.Op.TheVariants.{Min, Max}
 use Rattle.loop_ir.specs.Needed.{Keys, needed, none, sets}
 use Rattle.loop_ir.specs.Running.{Access as Touch, Key, State, acted, run}
 use Rattle.loop_ir.specs.Steps.{Action, Two, Steps, End, Then, For, If}
-use Rattle.register_map.specs.Fits.{AreApart, IsFit, SetsApart}
+use Rattle.register_map.specs.Fits.{AreApart, Fits, IsFit, SetsApart}
 use Rattle.register_map.specs.Homes.{Given, IsGiven, home_of}
 use Rattle.rv_line.specs.declared.line.Line.{Line}
 use Rattle.rv_steps.specs.Accesses.{Leads, accesses_of}
@@ -18,7 +18,9 @@ use Rattle.rv_steps.specs.Machine.{Access, Config, address_of, register_at}
 use Rattle.rv_steps.specs.Pieces.{StandsAt}
 use Rattle.rv_steps.specs.Registers.{AgreeBut}
 use Rattle.rv_steps.specs.Stops.{Ends}
-use Rattle.rv_emit.specs.Emitting.{Piece, Plan, action_lines, owed_by, straight}
+use Rattle.rv_emit.specs.Counting.{run_counting}
+use Rattle.rv_emit.specs.Emitting.{Piece, Plan, action_lines, emitted, owed_after, owed_by, straight}
+use Rattle.rv_emit.specs.Moving.{settle_lines}
 use Rattle.rv_emit.specs.Showing.{AreHomes, AreInOrder, AreTouches, IsSetting, Shows}
 use Rattle.rv_emit.specs.Walks.{Owed}
 
@@ -58,8 +60,8 @@ pub record Computes (lines : List Line) (base at : ℕ) (piece : List Line) (ste
   pub others : AgreeBut (to ∷ 30 ∷ 31 ∷ []) c.registers last.registers
   pub block : last.block ≡ c.block
 
--- From a configuration at line `at` the piece leads behind its lines, in at most its steps, and in exactly these where it is steady. The last
--- configuration shows these keys of the state after; the loads and stores are those of the accesses that come to the trace.
+-- From a configuration at line `at` the piece leads behind its lines, in at most its steps, and in exactly these where it is steady.
+-- The last configuration shows these keys of the state after; the loads and stores are those of the accesses that come to the trace.
 pub record Simulates (lines : List Line) (plan : Plan) (base at : ℕ) (piece : Piece) (steady : Bool) (owed : Owed) (keys : Keys)
     (before after : State) (c : Config) : Type 0 where
   pub steps : ℕ
@@ -97,7 +99,7 @@ run_each (nest ∷ nests) state = run_each nests (run nest.0 state)
 abbrev pub are_steady : List (Steps × Given) → Bool
 are_steady nests = list_all (λ nest. is_steady nest.0) nests
 
--- ---- one action
+-- ---- one action, and steps
 
 -- the lines of an action do what it does: homes are there, those that are needed lie apart, and what is set takes nothing away
 abbrev pub ActionSimulates : Action → Type 0
@@ -110,10 +112,28 @@ ActionSimulates action = (lines : List Line) (plan : Plan) (base at : ℕ) (owed
     → Simulates lines plan base at (straight (action_lines plan at owed action)) (is_steady_action action) (owed_by plan owed action) keys
     state (acted action state) c
 
+-- all that is owed is brought to its homes: the same state is shown, and nothing is owed
+abbrev pub Settling : Type 0
+Settling = (lines : List Line) (plan : Plan) (base at : ℕ) (owed : Owed) (keys : Keys) (state : State) (c : Config)
+    → IsSetting plan base (length state.words) → AreHomes plan.spill owed → Shows plan base owed keys state c
+    → StandsAt lines at (settle_lines owed) → c.pc ≡ address_of at
+    → Simulates lines plan base at (straight (settle_lines owed)) true [] keys state state c
+
+-- from a configuration that shows what steps need, their lines lead to one that shows what is needed behind them
+abbrev pub StepsSimulate : Type 0
+StepsSimulate = (lines : List Line) (plan : Plan) (base at : ℕ) (owed : Owed) (steps : Steps) (keys : Keys) (state : State) (c : Config)
+    → IsSetting plan base (length state.words) → AreHomes plan.spill owed
+    → EachNamed (λ key. IsSome (home_of plan.homes key)) steps → Fits (home_of plan.homes) steps keys
+    → KeepsCounters steps → SetsFit steps → TestsFit steps → HoldsFit state → Shows plan base owed (needed steps keys) state c
+    → StandsAt lines at (emitted plan owed steps at).lines → c.pc ≡ address_of at
+    → AreTouches (length state.words) (run_counting plan.down steps state)
+    → Simulates lines plan base at (emitted plan owed steps at) (is_steady steps) (owed_after plan owed steps) keys
+    state (run_counting plan.down steps state) c
+
 -- ---- a program
 
--- from c the program ends, in at most so many steps, and in exactly these where it is steady; the block holds the words after, and each register that
--- is given back is as it was
+-- from c the program ends, in at most so many steps, and in exactly these where it is steady; the block holds the words after, and
+-- each register that is given back is as it was
 pub record Performs (lines : List Line) (base spill most : ℕ) (steady : Bool) (before after : State) (c : Config) : Type 0 where
   pub steps : ℕ
   pub last : Config

@@ -15,7 +15,7 @@ abbrev pub dearest : Prices
 dearest = record { lines = λ value. 8; width = λ key. 3 }
 
 -- a nest that needs nothing at its start and is cheap at these prices
-pub record IsSmall (nest : Steps) : Type 0 where
+pub record IsSmallNest (nest : Steps) : Type 0 where
   pub counters : KeepsCounters nest
   pub sets : SetsFit nest
   pub tests : TestsFit nest

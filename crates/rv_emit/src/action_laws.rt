@@ -5,8 +5,8 @@ ghost use Rattle.loop_ir.specs.Steps.{Action, Copy, One, Place, Read, Set, Spot,
 ghost use Rattle.rv_emit.specs.Simulating.{ActionSimulates};
 ghost use Rattle.std.specs.Prelude.{ℕ, ℤ};
 
+use crate::machine::machine_is_known;
 use crate::moving_laws::{homes_are_fetched, homes_are_put, homes_repay};
-use rv_steps::{access_laws, constant_laws, machine_laws, run_laws, word_laws};
 
 /// The lines of a step that sets a register without a place do what it does.
 pub fn registers_are_set()
@@ -15,11 +15,7 @@ pub fn registers_are_set()
     ensures one { (op : Unary) (to from : ℕ) → ActionSimulates (One op to from) }
     ensures two { (op : Op) (to left right : ℕ) → ActionSimulates (Two op to left right) }
 {
-    machine_laws::lines_take_steps();
-    machine_laws::registers_are_kept();
-    access_laws::runs_lead();
-    run_laws::pieces_stand();
-    constant_laws::constants_are_set();
+    machine_is_known();
     homes_are_fetched();
     homes_are_put();
 }
@@ -30,13 +26,7 @@ pub fn places_are_set()
     ensures spot { (to : ℕ) (word : ℤ) (by : ℕ) → ActionSimulates (Spot to word by) }
     ensures walk { (place : ℕ) (words : ℤ) → ActionSimulates (Walk place words) }
 {
-    machine_laws::lines_take_steps();
-    machine_laws::registers_are_kept();
-    access_laws::runs_lead();
-    run_laws::pieces_stand();
-    constant_laws::numbers_wrap();
-    constant_laws::pointers_move();
-    constant_laws::constants_are_set();
+    machine_is_known();
     homes_are_fetched();
     homes_are_put();
 }
@@ -46,18 +36,7 @@ pub fn words_are_moved()
     ensures read { (to area place : ℕ) → ActionSimulates (Read to area place) }
     ensures write { (area place from : ℕ) → ActionSimulates (Write area place from) }
 {
-    machine_laws::lines_take_steps();
-    machine_laws::registers_are_kept();
-    access_laws::runs_lead();
-    run_laws::pieces_stand();
-    constant_laws::numbers_wrap();
-    constant_laws::pointers_move();
-    constant_laws::constants_are_set();
-    machine_laws::memory_is_kept();
-    machine_laws::bytes_are_kept();
-    constant_laws::addresses_have_offsets();
-    word_laws::area_words_are_set();
-    word_laws::words_are_moved();
+    machine_is_known();
     homes_are_fetched();
     homes_are_put();
     homes_repay();

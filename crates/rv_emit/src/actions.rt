@@ -1,10 +1,10 @@
 // The lines of the steps that do no list, and what is owed behind them.
-ghost use Rattle.std.specs.Prelude.{◌≡◌, ◌++◌, IsSome, OnOk, length};
+ghost use Rattle.std.specs.Prelude.{◌≡◌, IsSome, OnOk};
 ghost use Rattle.loop_ir.specs.Running.{Pointer, Register};
 ghost use Rattle.loop_ir.specs.Steps.{Copy, One, Place, Read, Set, Spot, Two, Walk, Write};
 ghost use Rattle.register_map.specs.Homes.{home_of};
-ghost use Rattle.rv_emit.specs.Emitting.{action_lines, owed_by};
-ghost use Rattle.rv_emit.specs.Programs.{plan_at};
+ghost use Rattle.rv_emit.specs.Emitting.{owed_by};
+ghost use Rattle.rv_emit.specs.Programs.{Pushes, plan_at};
 
 use crate::handling::{
     push_address, push_binary, push_copied, push_near, push_read, push_set, push_spot, push_unary,
@@ -25,9 +25,10 @@ pub(crate) fn set(
     value: i64,
 ) -> Result<(), NoMemory>
     requires { IsSome (home_of site.now.homes (Register to)) }
-    ensures lines { OnOk result (lines.new.items ≡ lines.old.items
-        ++ action_lines (plan_at site.now) (length lines.old.items) owed.old.items (Set to value)) }
-    ensures owed { OnOk result (owed.new.items ≡ owed_by (plan_at site.now) owed.old.items (Set to value)) }
+    ensures lines { OnOk result (Pushes (plan_at site.now) (Set to value)
+        owed.old.items lines.old.items lines.new.items) }
+    ensures owed { OnOk result (owed.new.items
+        ≡ owed_by (plan_at site.now) owed.old.items (Set to value)) }
 {
     let home = site.register(to);
     forget(owed, home);
@@ -44,9 +45,10 @@ pub(crate) fn copy(
 ) -> Result<(), NoMemory>
     requires to { IsSome (home_of site.now.homes (Register to)) }
     requires from { IsSome (home_of site.now.homes (Register from)) }
-    ensures lines { OnOk result (lines.new.items ≡ lines.old.items
-        ++ action_lines (plan_at site.now) (length lines.old.items) owed.old.items (Copy to from)) }
-    ensures owed { OnOk result (owed.new.items ≡ owed_by (plan_at site.now) owed.old.items (Copy to from)) }
+    ensures lines { OnOk result (Pushes (plan_at site.now) (Copy to from)
+        owed.old.items lines.old.items lines.new.items) }
+    ensures owed { OnOk result (owed.new.items
+        ≡ owed_by (plan_at site.now) owed.old.items (Copy to from)) }
 {
     let home = site.register(to);
     forget(owed, home);
@@ -64,9 +66,10 @@ pub(crate) fn one(
 ) -> Result<(), NoMemory>
     requires to { IsSome (home_of site.now.homes (Register to)) }
     requires from { IsSome (home_of site.now.homes (Register from)) }
-    ensures lines { OnOk result (lines.new.items ≡ lines.old.items
-        ++ action_lines (plan_at site.now) (length lines.old.items) owed.old.items (One op to from)) }
-    ensures owed { OnOk result (owed.new.items ≡ owed_by (plan_at site.now) owed.old.items (One op to from)) }
+    ensures lines { OnOk result (Pushes (plan_at site.now) (One op to from)
+        owed.old.items lines.old.items lines.new.items) }
+    ensures owed { OnOk result (owed.new.items
+        ≡ owed_by (plan_at site.now) owed.old.items (One op to from)) }
 {
     let home = site.register(to);
     forget(owed, home);
@@ -86,10 +89,10 @@ pub(crate) fn two(
     requires to { IsSome (home_of site.now.homes (Register to)) }
     requires left { IsSome (home_of site.now.homes (Register left)) }
     requires right { IsSome (home_of site.now.homes (Register right)) }
-    ensures lines { OnOk result (lines.new.items ≡ lines.old.items
-        ++ action_lines (plan_at site.now) (length lines.old.items) owed.old.items (Two op to left right)) }
-    ensures owed { OnOk result (owed.new.items ≡ owed_by (plan_at site.now)
-        owed.old.items (Two op to left right)) }
+    ensures lines { OnOk result (Pushes (plan_at site.now) (Two op to left right)
+        owed.old.items lines.old.items lines.new.items) }
+    ensures owed { OnOk result (owed.new.items
+        ≡ owed_by (plan_at site.now) owed.old.items (Two op to left right)) }
 {
     let home = site.register(to);
     forget(owed, home);
@@ -105,9 +108,10 @@ pub(crate) fn place(
     word: i64,
 ) -> Result<(), NoMemory>
     requires { IsSome (home_of site.now.homes (Pointer to)) }
-    ensures lines { OnOk result (lines.new.items ≡ lines.old.items
-        ++ action_lines (plan_at site.now) (length lines.old.items) owed.old.items (Place to word)) }
-    ensures owed { OnOk result (owed.new.items ≡ owed_by (plan_at site.now) owed.old.items (Place to word)) }
+    ensures lines { OnOk result (Pushes (plan_at site.now) (Place to word)
+        owed.old.items lines.old.items lines.new.items) }
+    ensures owed { OnOk result (owed.new.items
+        ≡ owed_by (plan_at site.now) owed.old.items (Place to word)) }
 {
     let home = site.place(to);
     forget(owed, home);
@@ -125,10 +129,10 @@ pub(crate) fn spot(
 ) -> Result<(), NoMemory>
     requires to { IsSome (home_of site.now.homes (Pointer to)) }
     requires by { IsSome (home_of site.now.homes (Register by)) }
-    ensures lines { OnOk result (lines.new.items ≡ lines.old.items
-        ++ action_lines (plan_at site.now) (length lines.old.items) owed.old.items (Spot to word by)) }
-    ensures owed { OnOk result (owed.new.items ≡ owed_by (plan_at site.now)
-        owed.old.items (Spot to word by)) }
+    ensures lines { OnOk result (Pushes (plan_at site.now) (Spot to word by)
+        owed.old.items lines.old.items lines.new.items) }
+    ensures owed { OnOk result (owed.new.items
+        ≡ owed_by (plan_at site.now) owed.old.items (Spot to word by)) }
 {
     let home = site.place(to);
     forget(owed, home);
@@ -143,7 +147,8 @@ pub(crate) fn go(
     words: i64,
 ) -> Result<(), NoMemory>
     requires { IsSome (home_of site.now.homes (Pointer place)) }
-    ensures { OnOk result (owed.new.items ≡ owed_by (plan_at site.now) owed.old.items (Walk place words)) }
+    ensures { OnOk result (owed.new.items
+        ≡ owed_by (plan_at site.now) owed.old.items (Walk place words)) }
 {
     walk(owed, site.place(place), words)
 }
@@ -159,10 +164,10 @@ pub(crate) fn read(
 ) -> Result<(), NoMemory>
     requires to { IsSome (home_of site.now.homes (Register to)) }
     requires place { IsSome (home_of site.now.homes (Pointer place)) }
-    ensures lines { OnOk result (lines.new.items ≡ lines.old.items
-        ++ action_lines (plan_at site.now) (length lines.old.items) owed.old.items (Read to area place)) }
-    ensures owed { OnOk result (owed.new.items ≡ owed_by (plan_at site.now)
-        owed.old.items (Read to area place)) }
+    ensures lines { OnOk result (Pushes (plan_at site.now) (Read to area place)
+        owed.old.items lines.old.items lines.new.items) }
+    ensures owed { OnOk result (owed.new.items
+        ≡ owed_by (plan_at site.now) owed.old.items (Read to area place)) }
 {
     let home = site.register(to);
     let from = site.place(place);
@@ -182,10 +187,10 @@ pub(crate) fn write(
 ) -> Result<(), NoMemory>
     requires place { IsSome (home_of site.now.homes (Pointer place)) }
     requires from { IsSome (home_of site.now.homes (Register from)) }
-    ensures lines { OnOk result (lines.new.items ≡ lines.old.items
-        ++ action_lines (plan_at site.now) (length lines.old.items) owed.old.items (Write area place from)) }
-    ensures owed { OnOk result (owed.new.items ≡ owed_by (plan_at site.now)
-        owed.old.items (Write area place from)) }
+    ensures lines { OnOk result (Pushes (plan_at site.now) (Write area place from)
+        owed.old.items lines.old.items lines.new.items) }
+    ensures owed { OnOk result (owed.new.items
+        ≡ owed_by (plan_at site.now) owed.old.items (Write area place from)) }
 {
     let to = site.place(place);
     let imm = push_near(lines, owed, to)?;

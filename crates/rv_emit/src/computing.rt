@@ -1,6 +1,7 @@
 // Lines that compute the operators: from registers to a register.
 ghost use Rattle.std.specs.Prelude.{◌≡◌, ◌+◌, ◌++◌, ◌∷◌, [], IfOk, OnOk, length};
-ghost use Rattle.rv_emit.specs.Computing.{choice_of, copy_lines, greater_lines, one_lines, smaller_lines, two_lines};
+ghost use Rattle.rv_emit.specs.Computing.{choice_of, copy_lines, greater_lines, one_lines};
+ghost use Rattle.rv_emit.specs.Computing.{smaller_lines, two_lines};
 ghost use Rattle.rv_line.specs.declared.line.Branch.{Branch};
 ghost use Rattle.rv_line.specs.declared.line.Line.{Line};
 
@@ -32,7 +33,8 @@ pub(crate) fn push_branch(
     right: u8,
     target: u32,
 ) -> Result<(), NoMemory>
-    ensures { OnOk result (lines.new.items ≡ lines.old.items ++ Line.Branch code left right target ∷ []) }
+    ensures { OnOk result (lines.new.items ≡ lines.old.items
+        ++ Line.Branch code left right target ∷ []) }
 {
     lines.push(Line::Branch {
         code,

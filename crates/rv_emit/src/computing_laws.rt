@@ -11,7 +11,7 @@ ghost use Rattle.rv_steps.specs.Pieces.{StandsAt};
 ghost use Rattle.rv_steps.specs.Wrapped.{wrapped};
 ghost use Rattle.std.specs.Prelude.{List, length, true, ℕ, ℤ, ◌<◌, ◌≡◌, ◌≢◌};
 
-use rv_steps::{access_laws, machine_laws, run_laws};
+use crate::machine::machine_is_known;
 
 /// The lines of a unary operator give it of a number, in any register but x31.
 pub fn unary_operators_are_computed()
@@ -21,10 +21,7 @@ pub fn unary_operators_are_computed()
         → StandsAt lines at (one_lines op to from) → c.pc ≡ address_of at
         → Computes lines base at (one_lines op to from) true to (wrapped (apply_unary op x)) c }
 {
-    machine_laws::lines_take_steps();
-    machine_laws::registers_are_kept();
-    access_laws::runs_lead();
-    run_laws::pieces_stand();
+    machine_is_known();
 }
 
 /// The lines of a binary operator give it of two numbers, in a register that may be one of theirs.
@@ -37,8 +34,5 @@ pub fn operators_are_computed()
         → Computes lines base at (two_lines at op to left right) (is_steady_op op) to
         (wrapped (apply op x y)) c }
 {
-    machine_laws::lines_take_steps();
-    machine_laws::registers_are_kept();
-    access_laws::runs_lead();
-    run_laws::pieces_stand();
+    machine_is_known();
 }

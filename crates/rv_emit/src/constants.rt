@@ -3,7 +3,8 @@ ghost use Rattle.rv_line.specs.Fits.{FitLines};
 ghost use Rattle.rv_line.specs.declared.line.Imm.{Imm};
 ghost use Rattle.rv_line.specs.declared.line.Line.{Line};
 ghost use Rattle.rv_steps.specs.Accesses.{Leads};
-ghost use Rattle.rv_steps.specs.Constants.{constant_lines, is_signed_below, lower_of, shift_lines, shifted_lines, short_lines, upper_of};
+ghost use Rattle.rv_steps.specs.Constants.{constant_lines, is_signed_below, lower_of};
+ghost use Rattle.rv_steps.specs.Constants.{shift_lines, shifted_lines, short_lines, upper_of};
 ghost use Rattle.rv_steps.specs.Effects.{word_of};
 ghost use Rattle.rv_steps.specs.Good.{is_kept};
 ghost use Rattle.rv_steps.specs.Kinds.{is_base, is_free, written};
@@ -11,7 +12,8 @@ ghost use Rattle.rv_steps.specs.Machine.{Config, address_of, with_register};
 ghost use Rattle.rv_steps.specs.Pieces.{StandsAt};
 ghost use Rattle.rv_steps.specs.Wrapped.{residue};
 ghost use Rattle.std.specs.List.{list_all};
-ghost use Rattle.std.specs.Prelude.{IsTrue, List, [], false, length, true, ℕ, ℤ, ◌*◌, ◌+◌, ◌++◌, ◌<◌, ◌==◌, ◌^◌, ◌∷◌, ◌≡◌, ◌≤◌};
+ghost use Rattle.std.specs.Prelude.{IsTrue, List, [], false, length, true, ℕ, ℤ};
+ghost use Rattle.std.specs.Prelude.{◌*◌, ◌+◌, ◌++◌, ◌<◌, ◌==◌, ◌^◌, ◌∷◌, ◌≡◌, ◌≤◌};
 
 use crate::few::Few;
 use rv_line::{Imm, Line};
@@ -128,8 +130,8 @@ pub fn constant(to: u8, value: i64) -> Few
     ensures few { length result ≤ 8 }
     ensures one { is_signed_below 2048 value ≡ true → length result ≡ 1 }
     ensures two { is_signed_below (2 ^ 31) value ≡ true → length result ≤ 2 }
-    ensures sets { (lines : List Line) (base k : ℕ) (c : Config) → StandsAt lines k result → to < length c.registers
-        → c.pc ≡ address_of k
+    ensures sets { (lines : List Line) (base k : ℕ) (c : Config) → StandsAt lines k result
+        → to < length c.registers → c.pc ≡ address_of k
         → Leads lines base (length result) c (record {
           registers = with_register c.registers to (word_of value);
           pc = address_of (k + length result);

@@ -28,7 +28,8 @@ pub(crate) fn registers_read(alloc: Global, nest: &Nest) -> Result<BTreeSet<u32>
 #[cycle(reads)]
 fn read_list(nest: &Nest, number: u32, registers: &mut BTreeSet<u32>) -> Result<(), NoMemory>
     requires { number < length nest.now }
-    ensures { OnOk result (Takes (read_by (tree_at (trees_from 0 nest.now) number)) registers.old.keys registers.new.keys) }
+    ensures { OnOk result (Takes (read_by (tree_at (trees_from 0 nest.now) number))
+        registers.old.keys registers.new.keys) }
 {
     lists_in_order();
     for step in nest.list(number) {
@@ -41,7 +42,8 @@ fn read_list(nest: &Nest, number: u32, registers: &mut BTreeSet<u32>) -> Result<
 #[cycle(reads)]
 fn read_step(nest: &Nest, step: Step, registers: &mut BTreeSet<u32>) -> Result<(), NoMemory>
     requires { AllByRecursion (λ inner. inner < length nest.now) (inner_lists step) }
-    ensures { OnOk result (Takes (read_by (steps_of (tree_at (trees_from 0 nest.now)) (step ∷ []))) registers.old.keys registers.new.keys) }
+    ensures { OnOk result (Takes (read_by (steps_of (tree_at (trees_from 0 nest.now)) (step ∷ [])))
+        registers.old.keys registers.new.keys) }
 {
     match step {
         Step::For { body, .. } => read_list(nest, body, registers),
@@ -57,7 +59,8 @@ fn read_step(nest: &Nest, step: Step, registers: &mut BTreeSet<u32>) -> Result<(
 /// Adds what a step that does no list reads.
 fn read_action(step: Step, registers: &mut BTreeSet<u32>) -> Result<(), NoMemory>
     requires { inner_lists step ≡ [] }
-    ensures { OnOk result (Takes (read_by (steps_of (λ inner. End) (step ∷ []))) registers.old.keys registers.new.keys) }
+    ensures { OnOk result (Takes (read_by (steps_of (λ inner. End) (step ∷ [])))
+        registers.old.keys registers.new.keys) }
 {
     match step {
         Step::Set { .. } | Step::Place { .. } => Ok(()),

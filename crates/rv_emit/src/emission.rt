@@ -1,6 +1,7 @@
 // The program of nests: their lines one after another, and the return.
 ghost use Rattle.std.specs.Prelude.{◌≡◌, ◌<◌, ◌≤◌, ◌^◌, [], IfOk, length};
 ghost use Rattle.std.specs.List.{AllByRecursion};
+ghost use Rattle.shapes_core.specs.Limits.{most_items};
 ghost use Rattle.loop_ir.specs.Pool.{tree};
 ghost use Rattle.rv_emit.specs.Emitting.{emitted, plan_of, program};
 ghost use Rattle.rv_emit.specs.Pricing.{total_cost, total_time};
@@ -19,21 +20,19 @@ use loop_ir::Nest;
 use register_map::Homes;
 use rv_line::{Assembly, Header, Line};
 use shape_check::Layout;
-use shapes_core::{Area, AreaKind, NoMemory};
+use shapes_core::{Area, AreaKind, MOST_ITEMS, NoMemory};
 use std::alloc::Global;
 
 /// The register that holds where a program returns to.
 const RETURN: u8 = 1;
 
-/// The most areas of a text.
-const MOST_AREAS: usize = 1 << 30;
-
-/// The lines of nests one after another, and the return, over the areas of a block. The header has the
-/// most steps that a run through the lines makes, and the most spill words of the nests' homes, which
-/// all nests share.
+/// The lines of nests one after another, and the return, over the areas of a block. The header has
+/// the most steps that a run through the lines makes, and the most spill words of the nests' homes,
+/// which all nests share.
 ///
 /// # Errors
-/// `NoMemory` where memory is wanted and cannot be had, or where there are more areas than a text has.
+/// `NoMemory` where memory is wanted and cannot be had, or where there are more areas than a text
+/// has.
 pub fn emit(
     alloc: Global,
     nests: &[Nest],
@@ -112,8 +111,8 @@ fn emit_nest(
     spill: u32,
 ) -> Result<u64, NoMemory>
     requires { HaveHomes homes.now (tree nest.now) }
-    ensures { IfOk result
-        (Emits (emitted (plan_of spill (tree nest.now, homes.now)) [] (tree nest.now)) lines.old.items lines.new.items) }
+    ensures { IfOk result (Emits (emitted (plan_of spill (tree nest.now, homes.now)) []
+        (tree nest.now)) lines.old.items lines.new.items) }
 {
     let reads = registers_read(alloc, nest)?;
     prove!(nest.lists() > 0);
@@ -125,11 +124,11 @@ fn emit_nest(
 /// The areas of a block.
 fn areas_of(alloc: Global, layout: &Layout) -> Result<Vec<Area>, NoMemory>
     ensures same { IfOk result (λ areas. areas.items ≡ layout.now) }
-    ensures few { IfOk result (λ areas. length areas.items ≤ 2 ^ 30) }
+    ensures few { IfOk result (λ areas. length areas.items ≤ most_items) }
     ensures fit { IfOk result (λ areas. AreAreas areas.items) }
 {
     let areas = layout.areas();
-    if areas.len() > MOST_AREAS {
+    if areas.len() > MOST_ITEMS {
         return Err(NoMemory);
     }
     let mut copies = Vec::new(alloc);
@@ -140,7 +139,8 @@ fn areas_of(alloc: Global, layout: &Layout) -> Result<Vec<Area>, NoMemory>
     Ok(copies)
 }
 
-/// An area has a name and a shape. The function does nothing: its clause is what `Name` and `Shape` keep.
+/// An area has a name and a shape. The function does nothing: its clause is what `Name` and `Shape`
+/// keep.
 fn area_holds(area: &Area)
     ensures { IsArea area.now }
 {

@@ -16,18 +16,18 @@ pub struct Few {
 
 impl Model for Few {
     ghost use Rattle.std.specs.Prelude.{List, length, take};
-    ghost use Rattle.rv_emit.specs.Fills.{IsFilled, filled};
+    ghost use Rattle.shapes_core.specs.Padded.{IsPadded, padded};
     ghost use Rattle.rv_line.specs.declared.line.Line.{Line};
 
     ghost Value = { List Line };
 
     ghost view = { λ f. take f.count f.places };
 
-    ghost invariant = { λ f. IsFilled Line.Fence 8 f.places f.count };
+    ghost invariant = { λ f. IsPadded Line.Fence 8 f.places f.count };
 
-    ghost inverse = { λ list. record { places = filled Line.Fence 8 list; count = length list } };
+    ghost inverse = { λ list. record { places = padded Line.Fence 8 list; count = length list } };
 
-    ghost inverse_ok = { λ n h i. record { places = h.fills i; count = h.counted i } };
+    ghost inverse_ok = { λ n h i. record { places = h.filled i; count = h.counted i } };
 }
 
 impl Few {

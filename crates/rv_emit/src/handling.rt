@@ -116,7 +116,8 @@ pub(crate) fn push_address(lines: &mut Vec<Line>, home: Home, start: i64) -> Res
 fn push_scaled(lines: &mut Vec<Line>, from: Home, start: i64) -> Result<(), NoMemory>
     ensures { OnOk result (lines.new.items ≡ lines.old.items ++ (fetch_lines 28 from
         ++ (constant_lines 30 start
-        ++ (Line.Imm Imm.Slli 29 (register_of 28 from) (pos 3) ∷ Line.Three Three.Add 30 30 29 ∷ [])))) }
+        ++ (Line.Imm Imm.Slli 29 (register_of 28 from) (pos 3)
+        ∷ Line.Three Three.Add 30 30 29 ∷ [])))) }
 {
     push_fetch(lines, FIRST, from)?;
     push_constant(lines, RESULT, start)?;
@@ -147,7 +148,8 @@ pub(crate) fn push_near(
     owed: &mut Vec<Debt>,
     home: Home,
 ) -> Result<i32, NoMemory>
-    ensures lines { OnOk result (lines.new.items ≡ lines.old.items ++ near_lines owed.old.items home) }
+    ensures lines { OnOk result (lines.new.items ≡ lines.old.items
+        ++ near_lines owed.old.items home) }
     ensures owed { OnOk result (owed.new.items ≡ near_owed owed.old.items home) }
     ensures offset { IfOk result (λ imm. imm ≡ offset owed.old.items home) }
 {
@@ -189,7 +191,8 @@ pub(crate) fn push_write(
     imm: i32,
 ) -> Result<(), NoMemory>
     ensures { OnOk result (lines.new.items ≡ lines.old.items ++ (fetch_lines 28 home
-        ++ (fetch_lines 30 to ++ Line.Store Store.Sd (register_of 28 home) imm (register_of 30 to) ∷ []))) }
+        ++ (fetch_lines 30 to
+        ++ Line.Store Store.Sd (register_of 28 home) imm (register_of 30 to) ∷ []))) }
 {
     push_fetch(lines, FIRST, home)?;
     push_fetch(lines, RESULT, to)?;

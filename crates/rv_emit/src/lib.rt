@@ -1,20 +1,21 @@
 // The lines of the machine to which nests are brought, and the laws of what they do.
 #![tactic(auto)]
 
-pub mod action_laws;
+mod action_laws;
 mod actions;
 mod computing;
-pub mod computing_laws;
+mod computing_laws;
 mod constants;
 mod counters;
-pub mod counting_laws;
+mod counting_laws;
 mod emission;
 pub mod emitting_examples;
 mod few;
 pub mod form_laws;
 mod handling;
+mod machine;
 mod moving;
-pub mod moving_laws;
+mod moving_laws;
 mod owed;
 mod pieces;
 mod site;

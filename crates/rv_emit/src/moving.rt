@@ -1,6 +1,8 @@
 // Lines between homes and registers.
 ghost use Rattle.std.specs.Prelude.{◌≡◌, ◌<◌, ◌++◌, ◌∷◌, [], OnOk};
-ghost use Rattle.rv_emit.specs.Moving.{advance_lines, fetch_lines, is_near, put_lines, reach_lines, reach_offset, reach_register, register_of, repay_lines, settle_lines};
+ghost use Rattle.rv_emit.specs.Moving.{advance_lines, fetch_lines, is_near, put_lines};
+ghost use Rattle.rv_emit.specs.Moving.{reach_lines, reach_offset, reach_register, register_of};
+ghost use Rattle.rv_emit.specs.Moving.{repay_lines, settle_lines};
 ghost use Rattle.rv_emit.specs.Walks.{bytes};
 ghost use Rattle.rv_line.specs.declared.line.Imm.{Imm};
 ghost use Rattle.rv_line.specs.declared.line.Line.{Line};
@@ -39,7 +41,8 @@ pub(crate) fn push_three(
     left: u8,
     right: u8,
 ) -> Result<(), NoMemory>
-    ensures { OnOk result (lines.new.items ≡ lines.old.items ++ Line.Three code to left right ∷ []) }
+    ensures { OnOk result (lines.new.items ≡ lines.old.items
+        ++ Line.Three code to left right ∷ []) }
 {
     lines.push(Line::Three {
         code,
@@ -70,7 +73,8 @@ pub(crate) fn push_imm(
 
 /// Loads the word at an offset from an address.
 pub(crate) fn push_load(lines: &mut Vec<Line>, to: u8, imm: i32, base: u8) -> Result<(), NoMemory>
-    ensures { OnOk result (lines.new.items ≡ lines.old.items ++ Line.Load Load.Ld to imm base ∷ []) }
+    ensures { OnOk result (lines.new.items ≡ lines.old.items
+        ++ Line.Load Load.Ld to imm base ∷ []) }
 {
     lines.push(Line::Load {
         code: Load::Ld,
@@ -88,7 +92,8 @@ pub(crate) fn push_store(
     imm: i32,
     base: u8,
 ) -> Result<(), NoMemory>
-    ensures { OnOk result (lines.new.items ≡ lines.old.items ++ Line.Store Store.Sd from imm base ∷ []) }
+    ensures { OnOk result (lines.new.items ≡ lines.old.items
+        ++ Line.Store Store.Sd from imm base ∷ []) }
 {
     lines.push(Line::Store {
         code: Store::Sd,

@@ -1,8 +1,10 @@
 // Pieces that hold no list: lines, and the steps that a run through them makes.
-ghost use Rattle.std.specs.Prelude.{◌≡◌, ◌+◌, ◌*◌, ◌<◌, ◌++◌, ◌∷◌, [], IfOk, IsSome, List, OnOk, if◌then◌else◌, length, negsuc, pos};
+ghost use Rattle.std.specs.Prelude.{◌≡◌, ◌+◌, ◌*◌, ◌<◌, ◌++◌, ◌∷◌, [], if◌then◌else◌};
+ghost use Rattle.std.specs.Prelude.{IfOk, IsSome, List, OnOk, length, negsuc, pos};
 ghost use Rattle.loop_ir.specs.Running.{Register};
 ghost use Rattle.register_map.specs.Homes.{home_of};
-ghost use Rattle.rv_emit.specs.Emitting.{back, behind, count_lines, home_at, last_count, start_lines, straight, test_lines};
+ghost use Rattle.rv_emit.specs.Emitting.{back, behind, count_lines, home_at, last_count};
+ghost use Rattle.rv_emit.specs.Emitting.{start_lines, straight, test_lines};
 ghost use Rattle.rv_emit.specs.Moving.{fetch_lines, put_lines, register_of, settle_lines};
 ghost use Rattle.rv_emit.specs.Programs.{Emits, plan_at};
 ghost use Rattle.rv_line.specs.declared.line.Branch.{Branch};
@@ -47,7 +49,8 @@ pub(crate) fn times(turns: u64, steps: u64) -> Result<u64, NoMemory>
 
 /// The steps of the lines behind the first ones, so many: one for each.
 pub(crate) fn steps_behind(lines: &[Line], before: usize) -> u64
-    ensures { (old list : List Line) → lines.now ≡ old ++ list → before ≡ length old → result ≡ length list }
+    ensures { (old list : List Line) → lines.now ≡ old ++ list → before ≡ length old
+        → result ≡ length list }
 {
     lines.len().saturating_sub(before) as u64
 }
@@ -134,7 +137,8 @@ fn push_turns(lines: &mut Vec<Line>, down: bool, turns: i64) -> Result<(), NoMem
 /// A counter goes on.
 fn push_count(lines: &mut Vec<Line>, home: Home, down: bool, turns: i64) -> Result<(), NoMemory>
     ensures { OnOk result (lines.new.items ≡ lines.old.items ++ (fetch_lines 30 home
-        ++ (Line.Imm Imm.Addi (register_of 30 home) (register_of 30 home) (if down then negsuc 0 else pos 1)
+        ++ (Line.Imm Imm.Addi (register_of 30 home) (register_of 30 home)
+        (if down then negsuc 0 else pos 1)
         ∷ (put_lines home ++ (if down then [] else constant_lines 31 turns))))) }
 {
     let register = register_of(RESULT, home);
@@ -172,7 +176,8 @@ fn last_count(down: bool) -> u8
     if down { ZERO } else { FAR }
 }
 
-/// Back to a line where two registers differ: by a branch that reaches it, and else by a branch over a jump and a jump.
+/// Back to a line where two registers differ: by a branch that reaches it, and else by a branch
+/// over a jump and a jump.
 fn push_back(lines: &mut Vec<Line>, top: u32, left: u8, right: u8) -> Result<u64, NoMemory>
     ensures { IfOk result (Emits (back top left right) lines.old.items lines.new.items) }
 {
@@ -188,7 +193,8 @@ fn push_back(lines: &mut Vec<Line>, top: u32, left: u8, right: u8) -> Result<u64
 /// Back to a line that no branch reaches.
 fn push_far(lines: &mut Vec<Line>, top: u32, left: u8, right: u8) -> Result<(), NoMemory>
     ensures { OnOk result (lines.new.items ≡ lines.old.items
-        ++ Line.Branch Branch.Bne left right (length lines.old.items + 2) ∷ Line.Jal 0 (length lines.old.items + 3) ∷ Line.Jal 0 top ∷ []) }
+        ++ Line.Branch Branch.Bne left right (length lines.old.items + 2)
+        ∷ Line.Jal 0 (length lines.old.items + 3) ∷ Line.Jal 0 top ∷ []) }
 {
     let over = line_ahead(lines, 2)?;
     let end = line_ahead(lines, 3)?;
@@ -206,9 +212,10 @@ pub(crate) fn emit_closing(
     top: u32,
 ) -> Result<u64, NoMemory>
     requires { IsSome (home_of site.now.homes (Register counter)) }
-    ensures { IfOk result (Emits (λ next. behind next (straight (count_lines
-        (plan_at site.now) counter turns))
-        (back top (register_of 30 (home_at (plan_at site.now) (Register counter))) (last_count (plan_at site.now) counter))) lines.old.items lines.new.items) }
+    ensures { IfOk result (Emits (λ next. behind next
+        (straight (count_lines (plan_at site.now) counter turns))
+        (back top (register_of 30 (home_at (plan_at site.now) (Register counter)))
+        (last_count (plan_at site.now) counter))) lines.old.items lines.new.items) }
 {
     let steps = emit_count(site, lines, counter, turns)?;
     let register = register_of(RESULT, site.register(counter));

@@ -35,7 +35,8 @@ impl<'a> Model for Emission<'a> {
 
     ghost view = { λ e. record { spill = e.spill; lists = e.nest.now; homes = e.homes.now } };
 
-    ghost invariant = { λ e. (number : ℕ) → holds e.reads.keys number ≡ reads_of (tree e.nest.now) (Register number) };
+    ghost invariant = { λ e. (number : ℕ)
+        → holds e.reads.keys number ≡ reads_of (tree e.nest.now) (Register number) };
 }
 
 impl<'a> Emission<'a> {
@@ -45,7 +46,8 @@ impl<'a> Emission<'a> {
         homes: &'a Homes,
         reads: BTreeSet<u32>,
     ) -> Emission<'a>
-        requires { (number : ℕ) → holds reads.keys number ≡ reads_of (tree nest.now) (Register number) }
+        requires { (number : ℕ)
+            → holds reads.keys number ≡ reads_of (tree nest.now) (Register number) }
         ensures { result ≡ record { spill = spill; lists = nest.now; homes = homes.now } }
     {
         Emission {

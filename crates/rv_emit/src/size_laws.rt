@@ -1,32 +1,26 @@
 // How many lines nests have and how many steps they make, as clauses of functions that do nothing.
 ghost use Rattle.loop_ir.specs.Costs.{cost, time};
-ghost use Rattle.loop_ir.specs.Kept.{EachNamed};
-ghost use Rattle.loop_ir.specs.Running.{Key};
 ghost use Rattle.loop_ir.specs.Steps.{Steps};
-ghost use Rattle.register_map.specs.declared.home.Home.{Home};
-ghost use Rattle.register_map.specs.Homes.{Given, IsHome, home_of};
+ghost use Rattle.register_map.specs.Homes.{Given};
 ghost use Rattle.rv_emit.specs.Emitting.{Plan, emitted, owed_after, program};
 ghost use Rattle.rv_emit.specs.Moving.{settle_lines};
 ghost use Rattle.rv_emit.specs.Pricing.{prices_of, total_cost, total_time};
-ghost use Rattle.rv_emit.specs.Showing.{AreHomes};
+ghost use Rattle.rv_emit.specs.Programs.{HaveHomes};
+ghost use Rattle.rv_emit.specs.Showing.{HomesLie};
 ghost use Rattle.rv_emit.specs.Simulating.{AreReady};
 ghost use Rattle.rv_emit.specs.Walks.{Owed};
-ghost use Rattle.std.specs.Prelude.{IsSome, List, Some, length, ℕ, ◌+◌, ◌≡◌, ◌≤◌};
+ghost use Rattle.std.specs.Prelude.{List, length, ℕ, ◌+◌, ◌≤◌};
 
 /// The lines of steps and those that bring what is owed behind them are at most the cost and those
 /// that brought what was owed before. The same holds of the steps that they make, and the time.
 pub fn steps_cost()
     ensures lines { (plan : Plan) (owed : Owed) (steps : Steps) (at : ℕ) → plan.spill ≤ 8192
-        → AreHomes plan.spill owed
-        → EachNamed (λ key. IsSome (home_of plan.homes key)) steps
-        → ((key : Key) (home : Home) → home_of plan.homes key ≡ Some home → IsHome plan.spill home)
+        → HaveHomes plan.homes steps → HomesLie plan
         → length (emitted plan owed steps at).lines
         + length (settle_lines (owed_after plan owed steps))
         ≤ cost (prices_of plan.homes) steps + length (settle_lines owed) }
     ensures steps { (plan : Plan) (owed : Owed) (steps : Steps) (at : ℕ) → plan.spill ≤ 8192
-        → AreHomes plan.spill owed
-        → EachNamed (λ key. IsSome (home_of plan.homes key)) steps
-        → ((key : Key) (home : Home) → home_of plan.homes key ≡ Some home → IsHome plan.spill home)
+        → HaveHomes plan.homes steps → HomesLie plan
         → (emitted plan owed steps at).steps + length (settle_lines (owed_after plan owed steps))
         ≤ time (prices_of plan.homes) steps + length (settle_lines owed) }
 {}

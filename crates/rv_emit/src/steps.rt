@@ -5,7 +5,8 @@ ghost use Rattle.loop_ir.specs.Pool.{inner_lists, steps_of};
 ghost use Rattle.loop_ir.specs.Running.{Register};
 ghost use Rattle.loop_ir.specs.Steps.{End};
 ghost use Rattle.register_map.specs.Homes.{home_of};
-ghost use Rattle.rv_emit.specs.Emitting.{choice_of, emitted, lists_of, loop_of, owed_after, settled, turn_of, turns_of};
+ghost use Rattle.rv_emit.specs.Emitting.{choice_of, emitted, lists_of, loop_of, owed_after};
+ghost use Rattle.rv_emit.specs.Emitting.{settled, turn_of, turns_of};
 ghost use Rattle.rv_emit.specs.Programs.{Emits, HaveHomes, list_tree, plan_at, step_lines};
 ghost use Rattle.rv_line.specs.declared.line.Line.{Line};
 
@@ -56,8 +57,8 @@ fn emit_step(
 ) -> Result<u64, NoMemory>
     requires within { AllByRecursion (λ inner. inner < length site.now.lists) (inner_lists step) }
     requires homes { HaveHomes site.now.homes (steps_of (list_tree site.now) (step ∷ [])) }
-    ensures emits { IfOk result (Emits (emitted (plan_at site.now)
-        owed.old.items (steps_of (list_tree site.now) (step ∷ []))) lines.old.items lines.new.items) }
+    ensures emits { IfOk result (Emits (emitted (plan_at site.now) owed.old.items
+        (steps_of (list_tree site.now) (step ∷ []))) lines.old.items lines.new.items) }
     ensures owed { OnOk result (owed.new.items ≡ owed_after (plan_at site.now)
         owed.old.items (steps_of (list_tree site.now) (step ∷ []))) }
 {
@@ -231,8 +232,8 @@ fn set_jump(lines: &mut Vec<Line>, number: usize, target: u32)
     lines[number] = Line::Jal { to: ZERO, target };
 }
 
-/// The lines of the lists of a choice: a branch over the jump to the second one, and a jump behind the first one. Where they
-/// lead is known only behind the lists.
+/// The lines of the lists of a choice: a branch over the jump to the second one, and a jump behind
+/// the first one. Where they lead is known only behind the lists.
 #[cycle(emits)]
 fn emit_lists(
     site: &Emission,
@@ -247,9 +248,9 @@ fn emit_lists(
     requires no_within { no < length site.now.lists }
     requires no_homes { HaveHomes site.now.homes (list_tree site.now no) }
     requires none { owed.old.items ≡ [] }
-    ensures emits { IfOk result (Emits (λ at. lists_of register at (settled
-        (plan_at site.now) (list_tree site.now yes)) (settled (plan_at site.now) (list_tree site.now no)))
-        lines.old.items lines.new.items) }
+    ensures emits { IfOk result (Emits (λ at. lists_of register at
+        (settled (plan_at site.now) (list_tree site.now yes))
+        (settled (plan_at site.now) (list_tree site.now no))) lines.old.items lines.new.items) }
     ensures none { OnOk result (owed.new.items ≡ []) }
 {
     let over = line_ahead(lines, 2)?;
@@ -284,9 +285,9 @@ fn emit_choice(
     requires no_within { no < length site.now.lists }
     requires no_homes { HaveHomes site.now.homes (list_tree site.now no) }
     ensures emits { IfOk result (Emits (λ at. choice_of (plan_at site.now) at
-        owed.old.items left below (settled (plan_at site.now) (list_tree site.now yes)) (settled
-        (plan_at site.now) (list_tree site.now no)))
-        lines.old.items lines.new.items) }
+        owed.old.items left below
+        (settled (plan_at site.now) (list_tree site.now yes))
+        (settled (plan_at site.now) (list_tree site.now no))) lines.old.items lines.new.items) }
     ensures none { OnOk result (owed.new.items ≡ []) }
 {
     let steps = emit_test(site, lines, owed, left, below)?;

@@ -1,7 +1,7 @@
 // How many lines constants and programs have, and which ones.
 ghost use Rattle.std.specs.Prelude.{◌≤◌, IfOk};
 ghost use Rattle.loop_ir.specs.Pool.{tree};
-ghost use Rattle.rv_emit.specs.TestNests.{IsSmall};
+ghost use Rattle.rv_emit.specs.TestNests.{IsSmallNest};
 
 use crate::{constant, emit};
 use loop_ir::{Lists, Nest, Step};
@@ -44,7 +44,7 @@ fn constants_have_as_many_lines_as_their_parts_need(rt: HostRuntime) -> Result<(
 
 /// The program of a nest, in a block with no areas.
 fn program_of(alloc: Global, nest: Nest) -> Result<Assembly, NoMemory>
-    requires { IsSmall (tree nest) }
+    requires { IsSmallNest (tree nest) }
 {
     constants_are_short();
     let given = assign(alloc, &nest)?;
@@ -59,7 +59,7 @@ fn program_of(alloc: Global, nest: Nest) -> Result<Assembly, NoMemory>
 
 /// The sum of two vectors of three elements.
 fn sum_nest(alloc: Global) -> Result<Nest, NoMemory>
-    ensures { IfOk result (λ nest. IsSmall (tree nest)) }
+    ensures { IfOk result (λ nest. IsSmallNest (tree nest)) }
 {
     let mut body = Vec::new(alloc);
     body.push(Step::Read {
@@ -103,7 +103,7 @@ fn sum_nest(alloc: Global) -> Result<Nest, NoMemory>
 
 /// Four turns, of which each takes one of two lists by its counter.
 fn choosing_nest(alloc: Global) -> Result<Nest, NoMemory>
-    ensures { IfOk result (λ nest. IsSmall (tree nest)) }
+    ensures { IfOk result (λ nest. IsSmallNest (tree nest)) }
 {
     let mut body = Vec::new(alloc);
     body.push(Step::If {
@@ -134,7 +134,7 @@ fn choosing_nest(alloc: Global) -> Result<Nest, NoMemory>
 /// So many registers, each set once.
 fn setting_nest(alloc: Global, count: u32) -> Result<Nest, NoMemory>
     requires { count ≤ 10000 }
-    ensures { IfOk result (λ nest. IsSmall (tree nest)) }
+    ensures { IfOk result (λ nest. IsSmallNest (tree nest)) }
 {
     let mut whole = Vec::new(alloc);
     for number in 0..count {
@@ -159,8 +159,9 @@ fn a_sum_takes_nine_lines_a_turn(rt: HostRuntime) -> Result<(), Fail> {
     Ok(())
 }
 
-// A number; the counter, which is read, from 0 up; the test, a branch, a jump, a list, a jump and a list,
-// of which a turn makes the test, two of these and a list with its jump at most; and three lines behind them.
+// A number; the counter, which is read, from 0 up; the test, a branch, a jump, a list, a jump and a
+// list, of which a turn makes the test, two of these and a list with its jump at most; and three
+// lines behind them.
 #[test]
 fn a_choice_takes_one_of_its_lists(rt: HostRuntime) -> Result<(), Fail> {
     let nest = choosing_nest(rt.alloc())?;
@@ -189,5 +190,17 @@ fn far_spill_words_take_three_lines_more(rt: HostRuntime) -> Result<(), Fail> {
     assert_eq!(rt; program.lines().len(), 10 + 256 * 2 + 34 * 5 + 1);
     assert_eq!(rt; program.header().steps, 10 + 256 * 2 + 34 * 5 + 1);
     assert_eq!(rt; program.header().spill, 290);
+    Ok(())
+}
+
+// Each of the forty has a home of its own: ten machine registers take a line each, and thirty near
+// spill words two.
+#[test]
+fn forty_registers_take_thirty_spill_words(rt: HostRuntime) -> Result<(), Fail> {
+    let nest = setting_nest(rt.alloc(), 40)?;
+    let program = program_of(rt.alloc(), nest)?;
+    assert_eq!(rt; program.header().spill, 30);
+    assert_eq!(rt; program.lines().len(), 10 + 30 * 2 + 1);
+    assert_eq!(rt; program.header().steps, 10 + 30 * 2 + 1);
     Ok(())
 }

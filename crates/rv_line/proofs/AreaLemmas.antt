@@ -1,9 +1,11 @@
+-- What fits has a row for each area, with the number of a scan below 2 ^ 32 and an offset below 2 ^ 64.
 use Rattle.std.proofs.Common.{ℕ, ◌+◌, ◌*◌, ◌<◌, ◌≤◌, ◌^◌, List, [], ◌∷◌, length, arith, le_trans, mul-le-mul}
 use Rattle.std.specs.Prelude.{map, nat_le}
 use Rattle.std.specs.List.{list_all, AllByRecursion}
 use Rattle.std.proofs.Math.Nat.{le-max_left}
 use Rattle.std.proofs.lemmas.Bool.{leb-true}
 use Rattle.std.proofs.lemmas.List.{length-map}
+use Rattle.shapes_core.specs.Limits.{greatest_extent, most_axes}
 use Rattle.shapes_core.specs.Shape.{IsShape, span, total}
 use Rattle.shapes_core.specs.declared.area.Area.{Area}
 use Rattle.shapes_core.specs.declared.area.AreaKind.{AreaKind}
@@ -18,10 +20,10 @@ total-span : (shape : List ℕ) → total shape ≤ span shape
 total-span [] = omega arith
 total-span (extent ∷ extents) = mul-le-mul (le-max_left extent 1) (total-span extents)
 
-total_small : (shape : List ℕ) → IsShape shape → total shape ≤ 16777216
+total_small : (shape : List ℕ) → IsShape shape → total shape ≤ greatest_extent
 total_small shape is =
-    let small = (both (list_all (λ extent. nat_le extent 16777216) shape) (nat_le (span shape) 16777216) (both (nat_le (length shape) 6) _ is).1).1 in
-    le_trans (total-span shape) (leb-true (span shape) 16777216 small)
+    let small = (both (list_all (λ extent. nat_le extent greatest_extent) shape) (nat_le (span shape) greatest_extent) (both (nat_le (length shape) most_axes) _ is).1).1 in
+    le_trans (total-span shape) (leb-true (span shape) greatest_extent small)
 
 -- scans are numbered below the number of areas
 scans_below : (most number : ℕ) (kinds : List AreaKind) → number + length kinds ≤ most → AreScans number kinds → AllByRecursion (IsBelow most) kinds
@@ -44,7 +46,7 @@ kinds_below most (In name ∷ kinds) within order = (tt, kinds_below most kinds 
 kinds_below most (Out name ∷ kinds) within order = outs_below most (Out name ∷ kinds) within order
 kinds_below most (Scan number ∷ kinds) within order = scans_below most 0 (Scan number ∷ kinds) (omega arith) order
 
-rows_from : (spill start : ℕ) (areas : List Area) → spill + start + 16777216 * length areas < 2 ^ 64 → AllByRecursion IsArea areas → AllByRecursion (IsBelow (2 ^ 32)) (map (λ area. area.kind) areas) → ArePacked start areas → AllByRecursion (HasRow spill) areas
+rows_from : (spill start : ℕ) (areas : List Area) → spill + start + greatest_extent * length areas < 2 ^ 64 → AllByRecursion IsArea areas → AllByRecursion (IsBelow (2 ^ 32)) (map (λ area. area.kind) areas) → ArePacked start areas → AllByRecursion (HasRow spill) areas
 rows_from spill start [] small each below packed = tt
 rows_from spill start (area ∷ areas) small each below packed =
     let bound = total_small area.shape each.0.shaped in

@@ -1,3 +1,4 @@
+-- Instructions and labels, as they are written, spell the instructions, and the labels that they define all differ.
 use Rattle.std.proofs.Common.{◌≡◌, ℕ, ◌+◌, ◌<◌, ◌≤◌, ◌^◌, List, [], ◌∷◌, ◌++◌, length, refl, sym, ap, ◌∙◌, inl, inr, arith, append_assoc, add-zero}
 use Rattle.std.specs.Prelude.{Bool, true, false, ◌≢◌, Option, Some, None, IfSome, IsTrue, codes, Contains, AllPairs, map, if◌then◌else◌}
 use Rattle.std.specs.Fmt.{decimal}
@@ -12,9 +13,10 @@ use Rattle.std.proofs.lemmas.List.Elements.{All-from_recursion, Contains-append_
 use Rattle.std.proofs.lemmas.List.Folds.{list_any-append}
 use Rattle.std.proofs.lemmas.List.Kept.{AllPairs-cons}
 use Rattle.std.proofs.lemmas.Str.Parse.{digit_from_value}
+use Rattle.shapes_core.specs.Limits.{most_items}
 use Rattle.rv_line.specs.Emitted.{label_name, label_text, lines_text, instruction_text, target_of, has_target, is_labelled, places_from}
 use Rattle.rv_line.specs.Fits.{FitLines}
-use Rattle.rv_line.specs.Instructions.{Says, IsLabel, is_label_byte}
+use Rattle.rv_line.specs.Instructions.{Says, IsLabel, is_label_byte, is_space_or_tab}
 use Rattle.rv_line.specs.Labels.{TargetsWithin}
 use Rattle.rv_line.specs.Spells.{SpellLines}
 use Rattle.rv_line.specs.Spells.SpellLines.{end, label, instruction}
@@ -47,7 +49,7 @@ lines_label true number rest small =
 lines_label false number rest small = refl
 
 -- the lines of the text of instructions and labels
-pub lines_body : (labelled : ℕ → Bool) (count at : ℕ) (program : List Line) → count ≤ 2 ^ 30 → at + length program ≡ count → FitLines count at program → lines (lines_text labelled at program) ≡ body_lines labelled at program
+pub lines_body : (labelled : ℕ → Bool) (count at : ℕ) (program : List Line) → count ≤ most_items → at + length program ≡ count → FitLines count at program → lines (lines_text labelled at program) ≡ body_lines labelled at program
 lines_body labelled count at [] small is fit =
     ap lines (sym (append-nil (label_text (labelled at) at))) ∙ lines_label (labelled at) at [] (omega arith) ∙ append-nil (label_lines (labelled at) at)
 lines_body labelled count at (line ∷ program) small is fit =
@@ -61,7 +63,7 @@ lines_body labelled count at (line ∷ program) small is fit =
     )
 
 -- a line that says what it holds, but for blanks in front
-pub Says-itself : (lead core : List ℕ) → IsTrue (list_all Rattle.rv_line.specs.Instructions.is_blank lead) → Says (lead ++ core) core
+pub Says-itself : (lead core : List ℕ) → IsTrue (list_all is_space_or_tab lead) → Says (lead ++ core) core
 Says-itself lead core blanks = record {
   lead = lead;
   trail = [];
@@ -85,11 +87,11 @@ spelled_label : (labels : List (List ℕ × ℕ)) (labelled : Bool) (next at : �
 spelled_label labels true next at texts program places defined small rest = label (label_name at) (Says-itself [] (label_name at ++ codes ":") refl) (IsLabel-label_name at small) rest
 spelled_label labels false next at texts program places defined small rest = rw (add-zero next) at rest
 
--- where a line goes has a label
+-- where an instruction goes has a label
 abbrev pub HasLabel : List (List ℕ × ℕ) → Line → Type 0
 HasLabel labels line = IfSome (target_of line) (λ target. Contains labels (label_name target, target))
 
-pub spelled_body : (labels : List (List ℕ × ℕ)) (labelled : ℕ → Bool) (count next at : ℕ) (program : List Line) → count ≤ 2 ^ 30 → at + length program ≡ count → FitLines count at program → AllByRecursion (HasLabel labels) program → SpellLines labels (body_lines labelled at program) next at program (places_from labelled next at program) (labels_defined labelled at program)
+pub spelled_body : (labels : List (List ℕ × ℕ)) (labelled : ℕ → Bool) (count next at : ℕ) (program : List Line) → count ≤ most_items → at + length program ≡ count → FitLines count at program → AllByRecursion (HasLabel labels) program → SpellLines labels (body_lines labelled at program) next at program (places_from labelled next at program) (labels_defined labelled at program)
 spelled_body labels labelled count next at [] small is fit known =
     let alone = spelled_label labels (labelled at) next at [] [] [] [] (omega arith) end in
     rw (append-nil (label_lines (labelled at) at), append-nil (label_defined (labelled at) at)) at alone
@@ -100,7 +102,7 @@ spelled_body labels labelled count next at (line ∷ program) small is fit known
     )
     )
 
--- a line that has a label has it among those
+-- an instruction that has a label has it among those
 first_label : (labelled : ℕ → Bool) (at number : ℕ) → labelled number ≡ true → at ≡ number → Contains (label_defined (labelled at) at) (label_name number, number)
 first_label labelled at number is same = rw (same, is) (0, omega arith, refl)
 
@@ -114,7 +116,7 @@ contains_label labelled at (line ∷ program) number is low high =
       | inr other ↦ Contains-append_right here behind (label_name number, number) (contains_label labelled (at + 1) program number is (omega arith) (omega arith))
     ]
 
--- a line of the program, behind `front`, has its target labelled
+-- an instruction of the program, behind `front`, has its target labelled
 target_labelled : (front program : List Line) (line : Line) (target : ℕ) → target_of line ≡ Some target → is_labelled (front ++ line ∷ program) target ≡ true
 target_labelled front program line target is =
     rw (list_any-append (has_target target) front (line ∷ program), is, eq-eqb target target refl) (or-true (list_any (has_target target) front))
@@ -129,7 +131,7 @@ targets_defined whole front (line ∷ program) is within =
     known (Some target) same bound =
         contains_label (is_labelled whole) 0 whole target (rw is (target_labelled front program line target same)) (omega arith) (omega arith)
 
--- a label of a line from number `low` on
+-- a label of an instruction from number `low` on
 pub record IsLater (low : ℕ) (name : List ℕ) : Type 0 where
   pub number : ℕ
   pub above : low ≤ number

@@ -1,11 +1,13 @@
-use Rattle.std.proofs.Common.{◌≡◌, ℕ, ◌<◌, List, [], ◌∷◌, ◌++◌, length, refl, sym, ap, ◌∙◌, arith}
-use Rattle.std.specs.Prelude.{Bool, true, false, ◌&&◌, ◌==◌, not, cond, codes, if◌then◌else◌}
+-- The form of an instruction is told by the first word of what spells it, its mnemonic.
+use Rattle.std.proofs.Common.{◌≡◌, ℕ, ◌+◌, ◌<◌, List, [], ◌∷◌, ◌++◌, length, refl, sym, ap, ◌∙◌, arith}
+use Rattle.std.specs.Prelude.{Bool, true, false, ◌&&◌, ◌==◌, nat_le, not, cond, codes, map, if◌then◌else◌}
 use Rattle.std.specs.List.{list_all, list_any}
-use Rattle.rv_line.specs.Instructions.{is_blank, AreBlanks, Takes, SpellsLine}
+use Rattle.std.proofs.lemmas.Bool.{ne_eqb, leb-true, le-leb}
+use Rattle.rv_line.specs.Instructions.{is_space_or_tab, AreBlanks, Takes, SpellsLine}
 use Rattle.rv_line.specs.Mnemonics.{three_mnemonic, imm_mnemonic, load_mnemonic, store_mnemonic, branch_mnemonic}
 use Rattle.rv_line.specs.declared.line.Line.{Line}
 use Rattle.rv_line.specs.declared.line.Line.TheVariants.{Three as ThreeLine, Imm as ImmLine, Load as LoadLine, Store as StoreLine, Branch as BranchLine, Lui, Auipc, Jal, Jalr, Fence, Ecall, Ebreak}
-use Rattle.rv_line.proofs.LinesLemmas.{IsPlain, both}
+use Rattle.rv_line.proofs.LinesLemmas.{IsPlain, both, all_weaker}
 use Rattle.rv_line.specs.declared.line.Three.{Three}
 use Rattle.rv_line.specs.declared.line.Three.TheVariants.{Add, Sub, Sll, Slt, Sltu, Xor, Srl, Sra, Or, And, Mul, Mulh, Mulhsu, Mulhu, Div, Divu, Rem, Remu, Addw, Subw, Sllw, Srlw, Sraw, Mulw, Divw, Divuw, Remw, Remuw}
 use Rattle.rv_line.specs.declared.line.Imm.{Imm}
@@ -20,7 +22,7 @@ use Rattle.rv_line.specs.declared.line.Branch.TheVariants.{Beq, Bne, Blt, Bge, B
 -- the bytes before the first blank
 abbrev pub first_word : List ℕ → List ℕ
 first_word [] = []
-first_word (byte ∷ bytes) = cond (is_blank byte) [] (byte ∷ first_word bytes)
+first_word (byte ∷ bytes) = cond (is_space_or_tab byte) [] (byte ∷ first_word bytes)
 
 abbrev pub same : List ℕ → List ℕ → Bool
 same [] [] = true
@@ -28,98 +30,93 @@ same [] (y ∷ ys) = false
 same (x ∷ xs) [] = false
 same (x ∷ xs) (y ∷ ys) = (x == y) && same xs ys
 
--- which form of line has the mnemonic, and 12 where none has
+-- the small letters of a mnemonic
+abbrev pub are_letters : List ℕ → Bool
+are_letters word = list_all (λ byte. nat_le 97 byte) word
+
+pub letter_solid : (byte : ℕ) → nat_le 97 byte ≡ true → not (is_space_or_tab byte) ≡ true
+letter_solid byte letter =
+    let low = leb-true 97 byte letter in
+    rw (ne_eqb byte 32 (λ e. omega arith), ne_eqb byte 9 (λ e. omega arith)) refl
+
+-- letters are no blanks, and no control characters
+pub letters_solid : (word : List ℕ) → are_letters word ≡ true → list_all (λ byte. not (is_space_or_tab byte)) word ≡ true
+letters_solid = all_weaker (nat_le 97) (λ byte. not (is_space_or_tab byte)) letter_solid
+
+pub letters_plain : (word : List ℕ) → are_letters word ≡ true → IsPlain word
+letters_plain word letters =
+    record { plain = all_weaker (nat_le 97) (nat_le 32) (λ byte letter. let low = leb-true 97 byte letter in le-leb 32 byte (omega arith)) word letters }
+
+-- the codes of each form that has more than one mnemonic
+abbrev pub threes : List Three
+threes = Add ∷ Sub ∷ Sll ∷ Slt ∷ Sltu ∷ Xor ∷ Srl ∷ Sra ∷ Or ∷ And ∷ Mul ∷ Mulh ∷ Mulhsu ∷ Mulhu ∷ Div ∷ Divu ∷ Rem ∷ Remu ∷ Addw ∷ Subw ∷ Sllw ∷ Srlw ∷ Sraw ∷ Mulw ∷ Divw ∷ Divuw ∷ Remw ∷ Remuw ∷ []
+
+abbrev pub imms : List Imm
+imms = Addi ∷ Slti ∷ Sltiu ∷ Xori ∷ Ori ∷ Andi ∷ Slli ∷ Srli ∷ Srai ∷ Addiw ∷ Slliw ∷ Srliw ∷ Sraiw ∷ []
+
+abbrev pub loads : List Load
+loads = Lb ∷ Lh ∷ Lw ∷ Ld ∷ Lbu ∷ Lhu ∷ Lwu ∷ []
+
+abbrev pub stores : List Store
+stores = Sb ∷ Sh ∷ Sw ∷ Sd ∷ []
+
+abbrev pub branches : List Branch
+branches = Beq ∷ Bne ∷ Blt ∷ Bge ∷ Bltu ∷ Bgeu ∷ []
+
+-- the mnemonics of the forms, by the numbers of the forms
+abbrev mnemonics : List (List (List ℕ))
+mnemonics =
+    map three_mnemonic threes ∷ map imm_mnemonic imms ∷ map load_mnemonic loads ∷ map store_mnemonic stores ∷ map branch_mnemonic branches
+    ∷ (codes "lui" ∷ []) ∷ (codes "auipc" ∷ []) ∷ (codes "jal" ∷ []) ∷ (codes "jalr" ∷ []) ∷ (codes "fence" ∷ []) ∷ (codes "ecall" ∷ []) ∷ (codes "ebreak" ∷ []) ∷ []
+
+-- the number of the first of these lists that has the word, counted from here, and the number behind the last where none has it
+abbrev form_from : ℕ → List (List (List ℕ)) → List ℕ → ℕ
+form_from number [] word = number
+form_from number (some ∷ more) word = if list_any (same word) some then number else form_from (number + 1) more word
+
+-- which form of instruction has the mnemonic, and 12 where none has
 abbrev pub form_of : List ℕ → ℕ
-form_of word =
-    if list_any (same word) (codes "add" ∷ codes "sub" ∷ codes "sll" ∷ codes "slt" ∷ codes "sltu" ∷ codes "xor" ∷ codes "srl" ∷ codes "sra" ∷ codes "or" ∷ codes "and" ∷ codes "mul" ∷ codes "mulh" ∷ codes "mulhsu" ∷ codes "mulhu" ∷ codes "div" ∷ codes "divu" ∷ codes "rem" ∷ codes "remu" ∷ codes "addw" ∷ codes "subw" ∷ codes "sllw" ∷ codes "srlw" ∷ codes "sraw" ∷ codes "mulw" ∷ codes "divw" ∷ codes "divuw" ∷ codes "remw" ∷ codes "remuw" ∷ []) then 0 else (
-    if list_any (same word) (codes "addi" ∷ codes "slti" ∷ codes "sltiu" ∷ codes "xori" ∷ codes "ori" ∷ codes "andi" ∷ codes "slli" ∷ codes "srli" ∷ codes "srai" ∷ codes "addiw" ∷ codes "slliw" ∷ codes "srliw" ∷ codes "sraiw" ∷ []) then 1 else (
-    if list_any (same word) (codes "lb" ∷ codes "lh" ∷ codes "lw" ∷ codes "ld" ∷ codes "lbu" ∷ codes "lhu" ∷ codes "lwu" ∷ []) then 2 else (
-    if list_any (same word) (codes "sb" ∷ codes "sh" ∷ codes "sw" ∷ codes "sd" ∷ []) then 3 else (
-    if list_any (same word) (codes "beq" ∷ codes "bne" ∷ codes "blt" ∷ codes "bge" ∷ codes "bltu" ∷ codes "bgeu" ∷ []) then 4 else (
-    if list_any (same word) (codes "lui" ∷ []) then 5 else (
-    if list_any (same word) (codes "auipc" ∷ []) then 6 else (
-    if list_any (same word) (codes "jal" ∷ []) then 7 else (
-    if list_any (same word) (codes "jalr" ∷ []) then 8 else (
-    if list_any (same word) (codes "fence" ∷ []) then 9 else (
-    if list_any (same word) (codes "ecall" ∷ []) then 10 else (
-    if list_any (same word) (codes "ebreak" ∷ []) then 11 else (
-    12))))))))))))
+form_of word = form_from 0 mnemonics word
 
 -- a mnemonic of a form
 pub record IsMnemonic (form : ℕ) (word : List ℕ) : Type 0 where
-  pub plain : IsPlain word
-  pub solid : list_all (λ byte. not (is_blank byte)) word ≡ true
+  pub letters : are_letters word ≡ true
+  pub some : 0 < length word
   pub form_is : form_of word ≡ form
 
 pub three_form : (code : Three) → IsMnemonic 0 (three_mnemonic code)
-three_form Add = record { plain = record { plain = refl }; solid = refl; form_is = refl }
-three_form Sub = record { plain = record { plain = refl }; solid = refl; form_is = refl }
-three_form Sll = record { plain = record { plain = refl }; solid = refl; form_is = refl }
-three_form Slt = record { plain = record { plain = refl }; solid = refl; form_is = refl }
-three_form Sltu = record { plain = record { plain = refl }; solid = refl; form_is = refl }
-three_form Xor = record { plain = record { plain = refl }; solid = refl; form_is = refl }
-three_form Srl = record { plain = record { plain = refl }; solid = refl; form_is = refl }
-three_form Sra = record { plain = record { plain = refl }; solid = refl; form_is = refl }
-three_form Or = record { plain = record { plain = refl }; solid = refl; form_is = refl }
-three_form And = record { plain = record { plain = refl }; solid = refl; form_is = refl }
-three_form Mul = record { plain = record { plain = refl }; solid = refl; form_is = refl }
-three_form Mulh = record { plain = record { plain = refl }; solid = refl; form_is = refl }
-three_form Mulhsu = record { plain = record { plain = refl }; solid = refl; form_is = refl }
-three_form Mulhu = record { plain = record { plain = refl }; solid = refl; form_is = refl }
-three_form Div = record { plain = record { plain = refl }; solid = refl; form_is = refl }
-three_form Divu = record { plain = record { plain = refl }; solid = refl; form_is = refl }
-three_form Rem = record { plain = record { plain = refl }; solid = refl; form_is = refl }
-three_form Remu = record { plain = record { plain = refl }; solid = refl; form_is = refl }
-three_form Addw = record { plain = record { plain = refl }; solid = refl; form_is = refl }
-three_form Subw = record { plain = record { plain = refl }; solid = refl; form_is = refl }
-three_form Sllw = record { plain = record { plain = refl }; solid = refl; form_is = refl }
-three_form Srlw = record { plain = record { plain = refl }; solid = refl; form_is = refl }
-three_form Sraw = record { plain = record { plain = refl }; solid = refl; form_is = refl }
-three_form Mulw = record { plain = record { plain = refl }; solid = refl; form_is = refl }
-three_form Divw = record { plain = record { plain = refl }; solid = refl; form_is = refl }
-three_form Divuw = record { plain = record { plain = refl }; solid = refl; form_is = refl }
-three_form Remw = record { plain = record { plain = refl }; solid = refl; form_is = refl }
-three_form Remuw = record { plain = record { plain = refl }; solid = refl; form_is = refl }
+three_form Add = record { letters = refl; some = omega arith; form_is = refl }
+three_form other = record { letters = refl; some = omega arith; form_is = refl }
 
 pub imm_form : (code : Imm) → IsMnemonic 1 (imm_mnemonic code)
-imm_form Addi = record { plain = record { plain = refl }; solid = refl; form_is = refl }
-imm_form Slti = record { plain = record { plain = refl }; solid = refl; form_is = refl }
-imm_form Sltiu = record { plain = record { plain = refl }; solid = refl; form_is = refl }
-imm_form Xori = record { plain = record { plain = refl }; solid = refl; form_is = refl }
-imm_form Ori = record { plain = record { plain = refl }; solid = refl; form_is = refl }
-imm_form Andi = record { plain = record { plain = refl }; solid = refl; form_is = refl }
-imm_form Slli = record { plain = record { plain = refl }; solid = refl; form_is = refl }
-imm_form Srli = record { plain = record { plain = refl }; solid = refl; form_is = refl }
-imm_form Srai = record { plain = record { plain = refl }; solid = refl; form_is = refl }
-imm_form Addiw = record { plain = record { plain = refl }; solid = refl; form_is = refl }
-imm_form Slliw = record { plain = record { plain = refl }; solid = refl; form_is = refl }
-imm_form Srliw = record { plain = record { plain = refl }; solid = refl; form_is = refl }
-imm_form Sraiw = record { plain = record { plain = refl }; solid = refl; form_is = refl }
+imm_form Addi = record { letters = refl; some = omega arith; form_is = refl }
+imm_form other = record { letters = refl; some = omega arith; form_is = refl }
 
 pub load_form : (code : Load) → IsMnemonic 2 (load_mnemonic code)
-load_form Lb = record { plain = record { plain = refl }; solid = refl; form_is = refl }
-load_form Lh = record { plain = record { plain = refl }; solid = refl; form_is = refl }
-load_form Lw = record { plain = record { plain = refl }; solid = refl; form_is = refl }
-load_form Ld = record { plain = record { plain = refl }; solid = refl; form_is = refl }
-load_form Lbu = record { plain = record { plain = refl }; solid = refl; form_is = refl }
-load_form Lhu = record { plain = record { plain = refl }; solid = refl; form_is = refl }
-load_form Lwu = record { plain = record { plain = refl }; solid = refl; form_is = refl }
+load_form Lb = record { letters = refl; some = omega arith; form_is = refl }
+load_form other = record { letters = refl; some = omega arith; form_is = refl }
 
 pub store_form : (code : Store) → IsMnemonic 3 (store_mnemonic code)
-store_form Sb = record { plain = record { plain = refl }; solid = refl; form_is = refl }
-store_form Sh = record { plain = record { plain = refl }; solid = refl; form_is = refl }
-store_form Sw = record { plain = record { plain = refl }; solid = refl; form_is = refl }
-store_form Sd = record { plain = record { plain = refl }; solid = refl; form_is = refl }
+store_form Sb = record { letters = refl; some = omega arith; form_is = refl }
+store_form other = record { letters = refl; some = omega arith; form_is = refl }
 
 pub branch_form : (code : Branch) → IsMnemonic 4 (branch_mnemonic code)
-branch_form Beq = record { plain = record { plain = refl }; solid = refl; form_is = refl }
-branch_form Bne = record { plain = record { plain = refl }; solid = refl; form_is = refl }
-branch_form Blt = record { plain = record { plain = refl }; solid = refl; form_is = refl }
-branch_form Bge = record { plain = record { plain = refl }; solid = refl; form_is = refl }
-branch_form Bltu = record { plain = record { plain = refl }; solid = refl; form_is = refl }
-branch_form Bgeu = record { plain = record { plain = refl }; solid = refl; form_is = refl }
+branch_form Beq = record { letters = refl; some = omega arith; form_is = refl }
+branch_form other = record { letters = refl; some = omega arith; form_is = refl }
 
--- the number of a line's form
+pub lui_form : IsMnemonic 5 (codes "lui")
+lui_form = record { letters = refl; some = omega arith; form_is = refl }
+
+pub auipc_form : IsMnemonic 6 (codes "auipc")
+auipc_form = record { letters = refl; some = omega arith; form_is = refl }
+
+pub jal_form : IsMnemonic 7 (codes "jal")
+jal_form = record { letters = refl; some = omega arith; form_is = refl }
+
+pub jalr_form : IsMnemonic 8 (codes "jalr")
+jalr_form = record { letters = refl; some = omega arith; form_is = refl }
+
+-- the number of an instruction's form
 abbrev pub form : Line → ℕ
 form (ThreeLine code to left right) = 0
 form (ImmLine code to from imm) = 1
@@ -134,12 +131,12 @@ form Fence = 9
 form Ecall = 10
 form Ebreak = 11
 
-first_word-append : (word gap rest : List ℕ) → list_all (λ byte. not (is_blank byte)) word ≡ true → AreBlanks gap → 0 < length gap → first_word (word ++ (gap ++ rest)) ≡ word
+first_word-append : (word gap rest : List ℕ) → list_all (λ byte. not (is_space_or_tab byte)) word ≡ true → AreBlanks gap → 0 < length gap → first_word (word ++ (gap ++ rest)) ≡ word
 first_word-append [] [] rest solid blanks some = absurd (omega arith)
-first_word-append [] (byte ∷ gap) rest solid blanks some = rw (both (is_blank byte) (list_all is_blank gap) blanks).0 refl
+first_word-append [] (byte ∷ gap) rest solid blanks some = rw (both (is_space_or_tab byte) (list_all is_space_or_tab gap) blanks).0 refl
 first_word-append (byte ∷ word) gap rest solid blanks some =
-    let parts = both (not (is_blank byte)) (list_all (λ other. not (is_blank other)) word) solid in
-    rw (unblank (is_blank byte) parts.0) (ap (λ bytes. byte ∷ bytes) (first_word-append word gap rest parts.1 blanks some))
+    let parts = both (not (is_space_or_tab byte)) (list_all (λ other. not (is_space_or_tab other)) word) solid in
+    rw (unblank (is_space_or_tab byte) parts.0) (ap (λ bytes. byte ∷ bytes) (first_word-append word gap rest parts.1 blanks some))
   where
     unblank : (b : Bool) → not b ≡ true → b ≡ false
     unblank true h = absurd (cc)
@@ -147,7 +144,7 @@ first_word-append (byte ∷ word) gap rest solid blanks some =
 
 pub word_of : (number : ℕ) (core mnemonic : List ℕ) (operands : List (List ℕ)) → IsMnemonic number mnemonic → Takes core mnemonic operands → form_of (first_word core) ≡ number
 word_of number core mnemonic operands is takes =
-    rw (takes.spelled, first_word-append mnemonic takes.gap takes.rest is.solid takes.apart takes.some) is.form_is
+    rw (takes.spelled, first_word-append mnemonic takes.gap takes.rest (letters_solid mnemonic is.letters) takes.apart takes.some) is.form_is
 
 -- the first word of an instruction tells its form
 pub form_spelled : (labels : List (List ℕ × ℕ)) (core : List ℕ) (line : Line) → SpellsLine labels core line → form_of (first_word core) ≡ form line
@@ -156,15 +153,15 @@ form_spelled labels core (ImmLine code to from imm) spelled = word_of 1 core _ _
 form_spelled labels core (LoadLine code to imm base) spelled = word_of 2 core _ _ (load_form code) spelled.takes
 form_spelled labels core (StoreLine code from imm base) spelled = word_of 3 core _ _ (store_form code) spelled.takes
 form_spelled labels core (BranchLine code left right target) spelled = word_of 4 core _ _ (branch_form code) spelled.takes
-form_spelled labels core (Lui to imm) spelled = word_of 5 core (codes "lui") _ (record { plain = record { plain = refl }; solid = refl; form_is = refl }) spelled.takes
-form_spelled labels core (Auipc to imm) spelled = word_of 6 core (codes "auipc") _ (record { plain = record { plain = refl }; solid = refl; form_is = refl }) spelled.takes
-form_spelled labels core (Jal to target) spelled = word_of 7 core (codes "jal") _ (record { plain = record { plain = refl }; solid = refl; form_is = refl }) spelled.takes
-form_spelled labels core (Jalr to imm base) spelled = word_of 8 core (codes "jalr") _ (record { plain = record { plain = refl }; solid = refl; form_is = refl }) spelled.takes
+form_spelled labels core (Lui to imm) spelled = word_of 5 core _ _ lui_form spelled.takes
+form_spelled labels core (Auipc to imm) spelled = word_of 6 core _ _ auipc_form spelled.takes
+form_spelled labels core (Jal to target) spelled = word_of 7 core _ _ jal_form spelled.takes
+form_spelled labels core (Jalr to imm base) spelled = word_of 8 core _ _ jalr_form spelled.takes
 form_spelled labels core Fence spelled = rw spelled refl
 form_spelled labels core Ecall spelled = rw spelled refl
 form_spelled labels core Ebreak spelled = rw spelled refl
 
--- no line is spelled where the first word is no mnemonic
+-- no instruction is spelled where the first word is no mnemonic
 pub no_line : (labels : List (List ℕ × ℕ)) (core : List ℕ) (line : Line) → form_of (first_word core) ≡ 12 → SpellsLine labels core line → ⊥
 no_line labels core line none spelled = at_most line (sym none ∙ form_spelled labels core line spelled)
   where

@@ -1,7 +1,9 @@
+-- An instruction, as it is written, spells itself, and is one line.
 use Rattle.std.proofs.Common.{◌≡◌, ℕ, ◌<◌, ◌≤◌, ◌^◌, List, [], ◌∷◌, ◌++◌, refl, arith, append_assoc}
 use Rattle.std.specs.Prelude.{ℤ, codes, Contains, IfSome}
 use Rattle.std.specs.Fmt.{decimal, signed_decimal}
 use Rattle.std.specs.Int.Signed.{mag}
+use Rattle.shapes_core.specs.Limits.{most_items}
 use Rattle.rv_line.specs.Emitted.{register_text, address_text, label_name, two_operands, three_operands, instruction_text, target_of}
 use Rattle.rv_line.specs.Fits.{IsRegister, FitsLine}
 use Rattle.rv_line.specs.Instructions.{Takes, TakesAddress, SpellsLine}
@@ -9,11 +11,11 @@ use Rattle.rv_line.specs.Mnemonics.{three_mnemonic, imm_mnemonic, load_mnemonic,
 use Rattle.rv_line.specs.declared.line.Line.{Line}
 use Rattle.rv_line.specs.declared.line.Line.TheVariants.{Three as ThreeLine, Imm as ImmLine, Load as LoadLine, Store as StoreLine, Branch as BranchLine, Lui, Auipc, Jal, Jalr, Fence, Ecall, Ebreak}
 use Rattle.rv_line.proofs.LinesLemmas.{IsPlain, IsPlain-append}
-use Rattle.rv_line.proofs.FormLemmas.{three_form, imm_form, load_form, store_form, branch_form}
+use Rattle.rv_line.proofs.FormLemmas.{letters_plain, three_form, imm_form, load_form, store_form, branch_form}
 use Rattle.rv_line.proofs.NumberLemmas.{IsSignedNumber-decimal, IsSignedNumber-signed_decimal, IsPlain-decimal, IsPlain-signed_decimal, mag_small, mag_imm}
 
 -- two operands, as they are written
-Takes-two : (mnemonic one two : List ℕ) → Takes (two_operands mnemonic one two) mnemonic (one ∷ two ∷ [])
+pub Takes-two : (mnemonic one two : List ℕ) → Takes (two_operands mnemonic one two) mnemonic (one ∷ two ∷ [])
 Takes-two mnemonic one two = record {
   gap = 32 ∷ [];
   rest = one ++ 44 ∷ 32 ∷ two;
@@ -110,18 +112,18 @@ IsPlain-three mnemonic one two three m p q r =
     r
 
 -- an instruction is one line
-pub IsPlain-instruction : (count at : ℕ) (line : Line) → count ≤ 2 ^ 30 → FitsLine count at line → IsPlain (instruction_text line)
+pub IsPlain-instruction : (count at : ℕ) (line : Line) → count ≤ most_items → FitsLine count at line → IsPlain (instruction_text line)
 IsPlain-instruction count at (ThreeLine code to left right) small fits =
-    IsPlain-three _ _ _ _ (three_form code).plain (IsPlain-register to fits.to) (IsPlain-register left fits.left) (IsPlain-register right fits.right)
+    IsPlain-three _ _ _ _ (letters_plain _ (three_form code).letters) (IsPlain-register to fits.to) (IsPlain-register left fits.left) (IsPlain-register right fits.right)
 IsPlain-instruction count at (ImmLine code to from imm) small fits =
-    IsPlain-three _ _ _ _ (imm_form code).plain (IsPlain-register to fits.to) (IsPlain-register from fits.from) (IsPlain-signed_decimal imm (mag_imm code imm fits.imm))
+    IsPlain-three _ _ _ _ (letters_plain _ (imm_form code).letters) (IsPlain-register to fits.to) (IsPlain-register from fits.from) (IsPlain-signed_decimal imm (mag_imm code imm fits.imm))
 IsPlain-instruction count at (LoadLine code to imm base) small fits =
-    IsPlain-two _ _ _ (load_form code).plain (IsPlain-register to fits.operand) (IsPlain-address imm base (mag_small imm fits.imm) fits.base)
+    IsPlain-two _ _ _ (letters_plain _ (load_form code).letters) (IsPlain-register to fits.operand) (IsPlain-address imm base (mag_small imm fits.imm) fits.base)
 IsPlain-instruction count at (StoreLine code from imm base) small fits =
-    IsPlain-two _ _ _ (store_form code).plain (IsPlain-register from fits.operand) (IsPlain-address imm base (mag_small imm fits.imm) fits.base)
+    IsPlain-two _ _ _ (letters_plain _ (store_form code).letters) (IsPlain-register from fits.operand) (IsPlain-address imm base (mag_small imm fits.imm) fits.base)
 IsPlain-instruction count at (BranchLine code left right target) small fits =
     let exists = fits.target.exists in
-    IsPlain-three _ _ _ _ (branch_form code).plain (IsPlain-register left fits.left) (IsPlain-register right fits.right) (IsPlain-label_name target (omega arith))
+    IsPlain-three _ _ _ _ (letters_plain _ (branch_form code).letters) (IsPlain-register left fits.left) (IsPlain-register right fits.right) (IsPlain-label_name target (omega arith))
 IsPlain-instruction count at (Lui to imm) small fits =
     let bound = fits.imm in
     IsPlain-two (codes "lui") _ _ (record { plain = refl }) (IsPlain-register to fits.to) (IsPlain-decimal imm (omega arith))

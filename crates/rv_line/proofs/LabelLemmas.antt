@@ -1,3 +1,4 @@
+-- Which instructions have a label, and where instructions stand, one instruction after another.
 use Rattle.std.proofs.Common.{◌≡◌, ℕ, suc, zero, ◌+◌, ◌<◌, ◌≤◌, List, [], ◌∷◌, ◌++◌, length, take, drop, set, get_or, refl, sym, ap, ◌∙◌, inl, inr, arith, add-zero, eq-eqb, append_assoc}
 use Rattle.std.specs.Prelude.{Bool, true, false, Option, Some, None, IfSome, if◌then◌else◌}
 use Rattle.std.specs.Prelude.{◌||◌}
@@ -12,7 +13,7 @@ use Rattle.rv_line.specs.Labels.{TargetsWithin}
 use Rattle.rv_line.specs.declared.line.Line.{Line}
 use Rattle.rv_line.specs.declared.line.Line.TheVariants.{Branch as BranchLine, Jal}
 
--- the targets of lines that fit are lines or the end
+-- the targets of instructions that fit are instructions or the end
 pub targets_within : (count at : ℕ) (lines : List Line) → FitLines count at lines → TargetsWithin count lines
 targets_within count at [] fit = tt
 targets_within count at (BranchLine code left right target ∷ lines) fit = (fit.0.target.exists, targets_within count (at + 1) lines fit.1)
@@ -30,7 +31,7 @@ pub found_within : (count : ℕ) (lines : List Line) (i : ℕ) (d : Line) (found
 found_within count lines i d found target within below looked is =
     rw (sym looked ∙ is) at (target_within count lines i d within below)
 
--- one more line is looked at, which has a target
+-- one more instruction is looked at, which has a target
 pub labelled_more : (lines : List Line) (i : ℕ) (d : Line) (labelled : List Bool) (found : Option ℕ) (target number : ℕ) → i < length lines → found ≡ target_of (get_or lines i d) → found ≡ Some target → number < length labelled → get_or labelled number false ≡ is_labelled (take i lines) number → get_or (set labelled target true) number false ≡ is_labelled (take (i + 1) lines) number
 labelled_more lines i d labelled found target number below looked is within before =
     rw (list_any_more (has_target number) lines i d below, sym looked ∙ is) (
@@ -45,12 +46,12 @@ labelled_more lines i d labelled found target number below looked is within befo
     ]
     )
 
--- one more line is looked at, which has none
+-- one more instruction is looked at, which has none
 pub labelled_same : (lines : List Line) (i : ℕ) (d : Line) (labelled : List Bool) (found : Option ℕ) (number : ℕ) → i < length lines → found ≡ target_of (get_or lines i d) → found ≡ None → get_or labelled number false ≡ is_labelled (take i lines) number → get_or labelled number false ≡ is_labelled (take (i + 1) lines) number
 labelled_same lines i d labelled found number below looked is before =
     rw (list_any_more (has_target number) lines i d below, sym looked ∙ is) (before ∙ sym (or-false _))
 
--- what is done, and what is left, one line on
+-- what is done, and what is left, one instruction on
 pub places_more : (labelled : ℕ → Bool) (lines : List Line) (at next place : ℕ) (d : Line) (places whole : List ℕ) → at < length lines → place ≡ next + (if labelled at then 1 else 0) → places ++ places_from labelled next at (drop at lines) ≡ whole → places ++ place ∷ [] ++ places_from labelled (place + 1) (at + 1) (drop (at + 1) lines) ≡ whole
 places_more labelled lines at next place d places whole below is before =
     append_assoc places (place ∷ []) (places_from labelled (place + 1) (at + 1) (drop (at + 1) lines))

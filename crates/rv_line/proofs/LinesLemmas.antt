@@ -1,3 +1,4 @@
+-- Tests that are joined, and texts with no control character, each of which is one line in front of the lines behind it.
 use Rattle.std.proofs.Common.{◌≡◌, ℕ, suc, zero, ◌-◌, ◌≤◌, List, [], ◌∷◌, ◌++◌, length, get_or, refl, ap, ◌∙◌, arith}
 use Rattle.std.specs.Prelude.{Bool, true, false, ◌&&◌, ◌==◌, nat_le, All, cond, slice_index}
 use Rattle.std.specs.List.{list_all, slice_split, onto_first}
@@ -21,6 +22,13 @@ IsPlain-append {xs} {ys} first second =
 pub both : (a b : Bool) → (a && b) ≡ true → (a ≡ true) × (b ≡ true)
 both true b h = (refl, h)
 both false b h = absurd (cc)
+
+-- where each byte passes one test, it passes another that follows
+pub all_weaker : (p q : ℕ → Bool) → ((b : ℕ) → p b ≡ true → q b ≡ true) → (text : List ℕ) → list_all p text ≡ true → list_all q text ≡ true
+all_weaker p q follows [] all = refl
+all_weaker p q follows (b ∷ text) all =
+    let parts = both (p b) (list_all p text) all in
+    rw (follows b parts.0) (all_weaker p q follows text parts.1)
 
 plain_cons : (x : ℕ) (xs : List ℕ) → IsPlain (x ∷ xs) → (32 ≤ x) × IsPlain xs
 plain_cons x xs p =

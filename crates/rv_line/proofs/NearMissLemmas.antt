@@ -1,3 +1,4 @@
+-- The texts that miss a spelling by little spell no program.
 use Rattle.std.proofs.Common.{◌≡◌, ℕ, ◌+◌, ◌<◌, ◌≤◌, List, [], ◌∷◌, ◌++◌, length, get_or, drop, refl, sym, ap, subst, ◌∙◌, inl, inr, arith, append_assoc}
 use Rattle.std.specs.Prelude.{ℤ, pos, ◌≤ℤ◌, ◌≢◌, Bool, true, false, ◌&&◌, ◌==◌, nat_le, cond, codes, AllPairs, map}
 use Rattle.std.specs.Fmt.{decimal}
@@ -18,7 +19,7 @@ use Rattle.shapes_core.specs.declared.area.AreaKind.TheVariants.{In, Out, Scan}
 use Rattle.rv_line.specs.Emitted.{register_text}
 use Rattle.rv_line.specs.SpellingExamples.{leading_zero_text, large_imm_text, no_label_text, wrong_offset_text, repeated_label_text}
 use Rattle.rv_line.specs.Fits.{Accepts, AreAreas, FitsLine, FitLines, IsArea, IsNamed}
-use Rattle.rv_line.specs.Instructions.{is_blank, AreBlanks, Takes, TakesImm, SpellsLine}
+use Rattle.rv_line.specs.Instructions.{is_space_or_tab, AreBlanks, Takes, TakesImm, SpellsLine}
 use Rattle.rv_line.specs.Numbers.{IsNumber, without_minus}
 use Rattle.rv_line.specs.Parts.{Parts}
 use Rattle.rv_line.specs.Rows.{is_row, SpellRows, SpellsRow, SpellsKind, spaced}
@@ -82,12 +83,12 @@ repeated_label_refused parts spells =
 -- what follows the blanks at the front
 abbrev skip_blanks : List ℕ → List ℕ
 skip_blanks [] = []
-skip_blanks (byte ∷ bytes) = cond (is_blank byte) (skip_blanks bytes) (byte ∷ bytes)
+skip_blanks (byte ∷ bytes) = cond (is_space_or_tab byte) (skip_blanks bytes) (byte ∷ bytes)
 
-skip_gap : (gap : List ℕ) (byte : ℕ) (bytes : List ℕ) → AreBlanks gap → is_blank byte ≡ false → skip_blanks (gap ++ byte ∷ bytes) ≡ byte ∷ bytes
+skip_gap : (gap : List ℕ) (byte : ℕ) (bytes : List ℕ) → AreBlanks gap → is_space_or_tab byte ≡ false → skip_blanks (gap ++ byte ∷ bytes) ≡ byte ∷ bytes
 skip_gap [] byte bytes blanks solid = rw solid refl
 skip_gap (other ∷ gap) byte bytes blanks solid =
-    let parts = both (is_blank other) (list_all is_blank gap) blanks in
+    let parts = both (is_space_or_tab other) (list_all is_space_or_tab gap) blanks in
     rw parts.0 (skip_gap gap byte bytes parts.1 solid)
 
 -- a register with a leading zero
@@ -95,8 +96,8 @@ behind_five : (before rest : List ℕ) → AreBlanks before → codes "5, 1" ≡
 behind_five [] rest blanks e = let first : ◌≡◌ {A = ℕ} 53 44 = ap (λ t. get_or t 0 0) e in omega arith
 behind_five (byte ∷ before) rest blanks e =
     let first : 53 ≡ byte = ap (λ t. get_or t 0 0) e in
-    let blank : is_blank byte ≡ true = (both (is_blank byte) (list_all is_blank before) blanks).0 in
-    let P : ℕ → Type 0 = λ b. is_blank b ≡ true in
+    let blank : is_space_or_tab byte ≡ true = (both (is_space_or_tab byte) (list_all is_space_or_tab before) blanks).0 in
+    let P : ℕ → Type 0 = λ b. is_space_or_tab b ≡ true in
     let wrong : false ≡ true = subst P (sym first) blank in
     absurd (cc)
 
@@ -157,10 +158,10 @@ behind_comma-append (byte ∷ front) rest none =
 blanks_no_comma : (blanks : List ℕ) → AreBlanks blanks → list_any (λ other. other == 44) blanks ≡ false
 blanks_no_comma [] are = refl
 blanks_no_comma (byte ∷ blanks) are =
-    let parts = both (is_blank byte) (list_all is_blank blanks) are in
+    let parts = both (is_space_or_tab byte) (list_all is_space_or_tab blanks) are in
     rw (ne_eqb byte 44 (λ e. not_comma (rw e at parts.0))) (blanks_no_comma blanks parts.1)
   where
-    not_comma : is_blank 44 ≡ true → ⊥
+    not_comma : is_space_or_tab 44 ≡ true → ⊥
     not_comma h = absurd (cc)
 
 digits_no_comma : (digits : List ℕ) → AllDigits 10 digits → list_any (λ other. other == 44) digits ≡ false
@@ -174,10 +175,10 @@ record IsSolid (text : List ℕ) : Type 0 where
   first : ℕ
   others : List ℕ
   is : text ≡ first ∷ others
-  solid : is_blank first ≡ false
+  solid : is_space_or_tab first ≡ false
   no_comma : list_any (λ other. other == 44) text ≡ false
 
-digit_solid : (byte : ℕ) → 48 ≤ byte → is_blank byte ≡ false
+digit_solid : (byte : ℕ) → 48 ≤ byte → is_space_or_tab byte ≡ false
 digit_solid byte low = rw (ne_eqb byte 32 (λ e. omega arith), ne_eqb byte 9 (λ e. omega arith)) refl
 
 signed_solid : (text : List ℕ) → IsNumeral 10 (without_minus text) → IsSolid text

@@ -1,3 +1,4 @@
+-- A number, as it is printed, is a spelling of itself, and has no control character.
 use Rattle.std.proofs.Common.{◌≡◌, ℕ, suc, ◌<◌, ◌≤◌, ◌^◌, List, [], ◌∷◌, refl, ap, arith}
 use Rattle.std.specs.Prelude.{ℤ, pos, negsuc, false, cond, drop, slice_index}
 use Rattle.std.specs.Fmt.{decimal, signed_decimal}

@@ -1,3 +1,4 @@
+-- A line with no comment and no blank at its ends says just itself, so that its first and last bytes tell what it can be.
 use Rattle.std.proofs.Common.{◌≡◌, ℕ, ◌+◌, ◌<◌, List, [], ◌∷◌, ◌++◌, length, get_or, refl, sym, ap, ◌∙◌, arith, append_assoc}
 use Rattle.std.specs.Prelude.{◌≢◌, true, false, ◌==◌, not, codes}
 use Rattle.std.specs.List.{list_all}
@@ -6,7 +7,7 @@ use Rattle.std.proofs.lemmas.List.Folds.{list_all-append}
 use Rattle.shapes_core.specs.declared.area.Area.{Area}
 use Rattle.shapes_core.specs.declared.area.AreaKind.{AreaKind}
 use Rattle.shapes_core.specs.declared.area.AreaKind.TheVariants.{In, Out, Scan}
-use Rattle.rv_line.specs.Instructions.{is_blank, AreBlanks, IsComment, Says, SpellsLine}
+use Rattle.rv_line.specs.Instructions.{is_space_or_tab, AreBlanks, IsComment, Says, SpellsLine}
 use Rattle.rv_line.specs.Rows.{is_row, SpellRows, SpellsRow, SpellsKind}
 use Rattle.rv_line.specs.Spells.{SpellLines}
 use Rattle.rv_line.specs.Spells.SaysNothing.{empty, section, global}
@@ -23,8 +24,8 @@ last_of before (byte ∷ bytes) = last_of byte bytes
 -- a line with no comment, and no blank at either end
 pub record IsTight (text : List ℕ) : Type 0 where
   pub bare : list_all (λ byte. not (byte == 35)) text ≡ true
-  pub first : is_blank (get_or text 0 0) ≡ false
-  pub last : is_blank (last_of 0 text) ≡ false
+  pub first : is_space_or_tab (get_or text 0 0) ≡ false
+  pub last : is_space_or_tab (last_of 0 text) ≡ false
 
 true_not_false : true ≡ false → ⊥
 true_not_false e = absurd (cc)
@@ -37,19 +38,19 @@ no_comment front (byte ∷ bytes) bare is =
     let here : not (byte == 35) ≡ true = (both (not (byte == 35)) (list_all (λ other. not (other == 35)) bytes) behind).0 in
     absurd (true_not_false (sym (rw is at here)))
 
-no_lead : (lead rest : List ℕ) → is_blank (get_or (lead ++ rest) 0 0) ≡ false → AreBlanks lead → lead ≡ []
+no_lead : (lead rest : List ℕ) → is_space_or_tab (get_or (lead ++ rest) 0 0) ≡ false → AreBlanks lead → lead ≡ []
 no_lead [] rest first blanks = refl
-no_lead (byte ∷ lead) rest first blanks = absurd (true_not_false (sym (both (is_blank byte) (list_all is_blank lead) blanks).0 ∙ first))
+no_lead (byte ∷ lead) rest first blanks = absurd (true_not_false (sym (both (is_space_or_tab byte) (list_all is_space_or_tab lead) blanks).0 ∙ first))
 
 pub last_of-append : (before : ℕ) (front : List ℕ) (byte : ℕ) (bytes : List ℕ) → last_of before (front ++ byte ∷ bytes) ≡ last_of byte bytes
 last_of-append before [] byte bytes = refl
 last_of-append before (other ∷ front) byte bytes = last_of-append other front byte bytes
 
-last_blank : (byte : ℕ) (bytes : List ℕ) → AreBlanks (byte ∷ bytes) → is_blank (last_of byte bytes) ≡ true
-last_blank byte [] blanks = (both (is_blank byte) true blanks).0
-last_blank byte (other ∷ bytes) blanks = last_blank other bytes (both (is_blank byte) (list_all is_blank (other ∷ bytes)) blanks).1
+last_blank : (byte : ℕ) (bytes : List ℕ) → AreBlanks (byte ∷ bytes) → is_space_or_tab (last_of byte bytes) ≡ true
+last_blank byte [] blanks = (both (is_space_or_tab byte) true blanks).0
+last_blank byte (other ∷ bytes) blanks = last_blank other bytes (both (is_space_or_tab byte) (list_all is_space_or_tab (other ∷ bytes)) blanks).1
 
-no_trail : (front trail : List ℕ) → is_blank (last_of 0 (front ++ trail)) ≡ false → AreBlanks trail → trail ≡ []
+no_trail : (front trail : List ℕ) → is_space_or_tab (last_of 0 (front ++ trail)) ≡ false → AreBlanks trail → trail ≡ []
 no_trail front [] last blanks = refl
 no_trail front (byte ∷ trail) last blanks =
     absurd (true_not_false (sym (last_blank byte trail blanks) ∙ (rw (last_of-append 0 front byte trail) at last)))
@@ -75,7 +76,7 @@ pub record IsInstruction (text : List ℕ) : Type 0 where
   pub begins : get_or text 0 0 ≢ 46
   pub ends : last_of 0 text ≢ 58
 
--- the first of the lines is spelled by this text, and the others by the other texts
+-- the first of the instructions is spelled by this text, and the others by the other texts
 pub record First (labels : List (List ℕ × ℕ)) (text : List ℕ) (texts : List (List ℕ)) (place at : ℕ) (program : List Line) (defined : List (List ℕ × ℕ)) : Type 0 where
   pub line : Line
   pub lines : List Line

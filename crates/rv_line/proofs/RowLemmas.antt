@@ -1,3 +1,4 @@
+-- The rows of areas, as they are written, spell the areas, each in one line.
 use Rattle.std.proofs.Common.{◌≡◌, ℕ, ◌+◌, ◌<◌, ◌≤◌, ◌^◌, List, [], ◌∷◌, ◌++◌, refl, ap, ◌∙◌, arith, append_assoc}
 use Rattle.std.specs.Prelude.{true, ◌&&◌, codes, map, nat_le, length}
 use Rattle.std.specs.Fmt.{decimal}
@@ -5,6 +6,7 @@ use Rattle.std.specs.List.{list_all, AllByRecursion}
 use Rattle.std.specs.Str.Lines.{lines}
 use Rattle.std.proofs.lemmas.Bool.{leb-true, le-leb}
 use Rattle.std.proofs.lemmas.Bool.Decides.{nat_tests}
+use Rattle.shapes_core.specs.Limits.{greatest_extent}
 use Rattle.shapes_core.specs.Name.{IsName, is_letter, is_name_byte}
 use Rattle.shapes_core.specs.Shape.{IsShape}
 use Rattle.shapes_core.specs.declared.area.Area.{Area}
@@ -25,11 +27,11 @@ abbrev pub rows : ℕ → List Area → List (List ℕ)
 rows spill areas = map (λ area. row (spill + area.start) area) areas
 
 -- extents are small numbers
-extents_small : (extents : List ℕ) → list_all (λ extent. nat_le extent 16777216) extents ≡ true → AllByRecursion (λ extent. extent < 2 ^ 64) extents
+extents_small : (extents : List ℕ) → list_all (λ extent. nat_le extent greatest_extent) extents ≡ true → AllByRecursion (λ extent. extent < 2 ^ 64) extents
 extents_small [] small = tt
 extents_small (extent ∷ extents) small =
-    let parts = both (nat_le extent 16777216) (list_all (λ other. nat_le other 16777216) extents) small in
-    let bound = leb-true extent 16777216 parts.0 in
+    let parts = both (nat_le extent greatest_extent) (list_all (λ other. nat_le other greatest_extent) extents) small in
+    let bound = leb-true extent greatest_extent parts.0 in
     (omega arith, extents_small extents parts.1)
 
 shape_small : (shape : List ℕ) → IsShape shape → AllByRecursion (λ extent. extent < 2 ^ 64) shape

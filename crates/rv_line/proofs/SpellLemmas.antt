@@ -1,3 +1,4 @@
+-- What is written of a program that fits spells it.
 use Rattle.std.proofs.Common.{◌≡◌, ℕ, ◌+◌, ◌<◌, ◌≤◌, ◌^◌, List, [], ◌∷◌, ◌++◌, length, get_or, refl, sym, ap, subst, ◌∙◌, arith, append_assoc, zero-add}
 use Rattle.std.specs.Prelude.{◌≢◌, AllPairs, Contains, Option, Some, None, IfSome, codes}
 use Rattle.std.specs.Fmt.{decimal}
@@ -6,6 +7,7 @@ use Rattle.std.specs.Str.Lines.{lines}
 use Rattle.std.proofs.lemmas.List.{length-map}
 use Rattle.std.proofs.lemmas.List.Elements.{All-from_recursion, Contains-append_right}
 use Rattle.std.proofs.lemmas.List.Kept.{AllPairs-cons}
+use Rattle.shapes_core.specs.Limits.{most_items, most_words}
 use Rattle.rv_line.specs.Emitted.{emitted, as_emitted, emitted_places, header_text, areas_text, lines_text, is_labelled, label_name, target_of}
 use Rattle.rv_line.specs.Fits.{Fits}
 use Rattle.rv_line.specs.Instructions.{IsGlobal}
@@ -22,7 +24,7 @@ use Rattle.rv_line.proofs.LinesLemmas.{IsPlain, IsPlain-append, lines_more}
 use Rattle.rv_line.proofs.NumberLemmas.{IsNumber-decimal, IsPlain-decimal}
 use Rattle.rv_line.proofs.RowLemmas.{row, rows, rows_spelled, lines_rows}
 
--- the lines before the program's own
+-- the lines before those of the instructions
 abbrev preamble : List (List ℕ)
 preamble = codes ".text" ∷ codes ".globl psi_main" ∷ codes "psi_main:" ∷ []
 
@@ -40,7 +42,7 @@ header_grouped steps spill rest = simp append_assoc refl
 header_line : (front : List ℕ) (n : ℕ) → n < 2 ^ 64 → IsPlain front → IsPlain (front ++ decimal n)
 header_line front n small plain = IsPlain-append {xs = front} {ys = decimal n} plain (IsPlain-decimal n small)
 
-lines_header : (header : Header) (rest : List ℕ) → header.steps < 2 ^ 63 → header.spill ≤ 134217728 → lines (header_text header ++ rest) ≡ codes "# psi 1" ∷ (codes "# steps " ++ decimal header.steps) ∷ (codes "# spill " ++ decimal header.spill) ∷ lines rest
+lines_header : (header : Header) (rest : List ℕ) → header.steps < 2 ^ 63 → header.spill ≤ most_words → lines (header_text header ++ rest) ≡ codes "# psi 1" ∷ (codes "# steps " ++ decimal header.steps) ∷ (codes "# spill " ++ decimal header.spill) ∷ lines rest
 lines_header header rest steps spill =
     let first = codes "# psi 1" in
     let second = codes "# steps " ++ decimal header.steps in
@@ -98,7 +100,7 @@ main_differs [] later = tt
 main_differs (name ∷ names) later =
     ((λ e. not_numbered later.0.number (e ∙ later.0.is)), main_differs names later.1)
 
-labels_all_differ : (program : List Line) → length program ≤ 2 ^ 30 → AllPairs (λ one other. one ≢ other) (label_names (all_labels program))
+labels_all_differ : (program : List Line) → length program ≤ most_items → AllPairs (λ one other. one ≢ other) (label_names (all_labels program))
 labels_all_differ program small =
     let names = label_names (labels_defined (is_labelled program) 0 program) in
     AllPairs-cons (λ one other. one ≢ other) (codes "psi_main") names
@@ -153,7 +155,7 @@ emitted_spells parts fits =
       lines_fit = fits.in_form;
     }
 
--- where the lines stand as in the emitted text, that is the program itself
+-- where the instructions stand as in the emitted text, that is the program itself
 pub spelled_as_placed : (text : List ℕ) (parts : Parts) → parts.places ≡ emitted_places parts.areas parts.lines → Spells text (as_emitted parts) → Spells text parts
 spelled_as_placed text parts is spells =
     let P : List ℕ → Type 0 = λ places. Spells text (record { header = parts.header; areas = parts.areas; lines = parts.lines; places = places }) in

@@ -1,3 +1,4 @@
+-- A text spells at most one program: its header, areas and instructions, and where these stand, are found in the text.
 use Rattle.std.proofs.Common.{◌≡◌, ℕ, ◌+◌, List, [], length, get_or, drop, refl, sym, ap, ◌∙◌}
 use Rattle.std.specs.Prelude.{not}
 use Rattle.std.specs.Str.Lines.{lines}
@@ -8,10 +9,10 @@ use Rattle.rv_line.specs.Spells.{Spells}
 use Rattle.shapes_core.specs.declared.area.Area.{Area}
 use Rattle.rv_line.specs.declared.assembly.Header.{Header}
 use Rattle.rv_line.specs.declared.line.Line.{Line}
-use Rattle.rv_line.proofs.BodyReadings.{labels_of, lines_of, places_of, BodyRead, body_read, labels_named}
-use Rattle.rv_line.proofs.Cuts.{until, since}
-use Rattle.rv_line.proofs.LineReadings.{AreTextLabels}
-use Rattle.rv_line.proofs.RowReadings.{areas_at, rows_read, rows_until, body_since}
+use Rattle.rv_line.proofs.BodyReadingLemmas.{labels_of, lines_of, places_of, BodyRead, body_read, labels_named}
+use Rattle.rv_line.proofs.CutLemmas.{until, since}
+use Rattle.rv_line.proofs.LineReadingLemmas.{AreTextLabels}
+use Rattle.rv_line.proofs.RowReadingLemmas.{areas_at, rows_read, rows_until, body_since}
 
 -- the number behind the 8 bytes of a word of the header
 abbrev number_in : ℕ → List ℕ → ℕ

@@ -1,3 +1,5 @@
+-- The text that is written: of the many that spell a program this one, byte for byte, as a function of the program, and on which line of it
+-- each instruction stands. The instructions are those of RV64IM (RISC-V unprivileged ISA); the rest is this project's own.
 use Rattle.std.specs.Prelude.{ℕ, ◌+◌, ℤ, Bool, false, ◌==◌, if◌then◌else◌, Option, Some, None, List, [], ◌∷◌, ◌++◌, length, codes}
 use Rattle.std.specs.Fmt.{decimal, signed_decimal}
 use Rattle.std.specs.List.{flat_map, list_any}
@@ -19,7 +21,7 @@ register_text register = codes "x" ++ decimal register
 abbrev pub address_text : ℤ → ℕ → List ℕ
 address_text imm base = signed_decimal imm ++ codes "(" ++ register_text base ++ codes ")"
 
--- the name of the label of a line by its number, as `.L7`
+-- the name of an instruction's label by the instruction's number, as `.L7`
 abbrev pub label_name : ℕ → List ℕ
 label_name number = codes ".L" ++ decimal number
 
@@ -45,25 +47,25 @@ instruction_text Fence = codes "fence"
 instruction_text Ecall = codes "ecall"
 instruction_text Ebreak = codes "ebreak"
 
--- the number of the line to which a line may go, besides the one behind it
+-- the number of the instruction to which an instruction may go, besides the one behind it
 abbrev pub target_of : Line → Option ℕ
 target_of (BranchLine code left right target) = Some target
 target_of (Jal to target) = Some target
 target_of _ = None
 
--- whether a line has this target
+-- whether an instruction has this target
 abbrev pub has_target : ℕ → Line → Bool
 has_target number line = option_map_or (λ target. target == number) (target_of line) false
 
--- whether some line has this target, so that it has a label
+-- whether some instruction has this target, so that the target has a label
 abbrev pub is_labelled : List Line → ℕ → Bool
 is_labelled lines number = list_any (has_target number) lines
 
--- the label's line, where there is one
+-- the line of a label, where there is one
 abbrev pub label_text : Bool → ℕ → List ℕ
 label_text labelled number = if labelled then label_name number ++ codes ":\n" else []
 
--- the lines from number `at` on, each behind its label, and the label of the end
+-- the instructions from number `at` on, each on a line of its own behind that of its label, and the label of the end
 abbrev pub lines_text : (ℕ → Bool) → ℕ → List Line → List ℕ
 lines_text labelled at [] = label_text (labelled at) at
 lines_text labelled at (line ∷ lines) = label_text (labelled at) at ++ codes "    " ++ instruction_text line ++ codes "\n" ++ lines_text labelled (at + 1) lines
@@ -86,7 +88,7 @@ area_text offset area = kind_text area.kind ++ codes " " ++ decimal offset ++ ex
 abbrev pub areas_text : ℕ → List Area → List ℕ
 areas_text spill areas = flat_map (λ area. area_text (spill + area.start) area) areas
 
--- the first three lines
+-- the first three lines of the text
 abbrev pub header_text : Header → List ℕ
 header_text header = codes "# psi 1\n# steps " ++ decimal header.steps ++ codes "\n# spill " ++ decimal header.spill ++ codes "\n"
 
@@ -95,18 +97,18 @@ abbrev pub emitted : Parts → List ℕ
 emitted parts =
     header_text parts.header ++ areas_text parts.header.spill parts.areas ++ codes ".text\n.globl psi_main\npsi_main:\n" ++ lines_text (is_labelled parts.lines) 0 parts.lines
 
--- the places of the text where the lines from number `at` on stand, each behind its label, where `next` is the next place
+-- the lines of the text where the instructions from number `at` on stand, each behind its label, where `next` is the next line
 abbrev pub places_from : (ℕ → Bool) → ℕ → ℕ → List Line → List ℕ
 places_from labelled next at [] = []
 places_from labelled next at (line ∷ lines) =
     let place = next + (if labelled at then 1 else 0) in
     place ∷ places_from labelled (place + 1) (at + 1) lines
 
--- the same of the emitted text: three lines of the header, a row an area, and three lines stand before
+-- the same of the whole text: three lines of the header, a row an area, and three lines stand before the first instruction
 abbrev pub emitted_places : List Area → List Line → List ℕ
 emitted_places areas lines = places_from (is_labelled lines) (length areas + 7) 0 lines
 
--- the same program, with its lines where the emitted text has them
+-- the same program, with its instructions where the emitted text has them
 abbrev pub as_emitted : Parts → Parts
 as_emitted parts = record {
   header = parts.header;

@@ -1,3 +1,4 @@
+-- What it means to be the last of a range, with the instructions and the areas on which the ranges of `Fits` are tried. This project's own.
 use Rattle.std.specs.Prelude.{ℕ, ◌+◌, ℤ, pos, List, [], ◌∷◌, ◌++◌, map}
 use Rattle.std.specs.List.{AllByRecursion}
 use Rattle.shapes_core.specs.declared.area.Area.{Area}
@@ -16,11 +17,11 @@ pub record IsLast {A : Type 0} (Holds : A → Type 0) (last next : A) : Type 0 w
   pub within : Holds last
   pub beyond : Holds next → ⊥
 
--- each of these lines fits with the last of a range, and not with the next behind it
+-- each of these instructions fits with the last of a range, and not with the next behind it
 abbrev pub AreLast : {A : Type 0} → List (A → Line) → A → A → Type 0
 AreLast lines last next = AllByRecursion (λ line. IsLast (λ x. FitsLine 1 0 (line x)) last next) lines
 
--- the lines with a signed immediate
+-- the instructions with a signed immediate
 abbrev pub signed_lines : List (ℤ → Line)
 signed_lines =
     map (λ code imm. ImmLine code 5 6 imm) (Addi ∷ Slti ∷ Sltiu ∷ Xori ∷ Ori ∷ Andi ∷ Addiw ∷ [])
@@ -33,7 +34,7 @@ shift_lines = map (λ code imm. ImmLine code 5 6 imm) (Slli ∷ Srli ∷ Srai �
 abbrev pub half_shift_lines : List (ℤ → Line)
 half_shift_lines = map (λ code imm. ImmLine code 5 6 imm) (Slliw ∷ Srliw ∷ Sraiw ∷ [])
 
--- the lines with the upper bits of a word
+-- the instructions with the upper bits of a word
 abbrev pub upper_lines : List (ℕ → Line)
 upper_lines = Lui 5 ∷ Auipc 5 ∷ []
 

@@ -1,5 +1,9 @@
+-- What is asked of a program that has a text. The registers, immediates and targets of an instruction are those of its form in the RISC-V
+-- unprivileged ISA, 'RV32I' and 'RV64I'; what is asked of the header and of the areas is this project's own. That there are at most
+-- `most_items` areas and instructions is asked of what an `Assembly` holds, and not of a text.
 use Rattle.std.specs.Prelude.{ℕ, ◌+◌, ◌*◌, ◌^◌, ◌≤◌, ◌<◌, ◌≡◌, ◌≢◌, ℤ, pos, negsuc, ◌≤ℤ◌, List, [], ◌∷◌, length, map, AllPairs}
 use Rattle.std.specs.List.{AllByRecursion}
+use Rattle.shapes_core.specs.Limits.{most_items, most_words}
 use Rattle.shapes_core.specs.Name.{IsName}
 use Rattle.shapes_core.specs.Shape.{IsShape, total}
 use Rattle.shapes_core.specs.declared.area.Area.{Area}
@@ -42,8 +46,8 @@ Accepts Slliw imm = IsShift (pos 31) imm
 Accepts Srliw imm = IsShift (pos 31) imm
 Accepts Sraiw imm = IsShift (pos 31) imm
 
--- in a program of `count` lines of 4 bytes, what line `at` may have as its target: a line or the end, and at most `low` bytes
--- before the line, or `high` bytes behind it
+-- in a program of `count` instructions of 4 bytes, what instruction `at` may have as its target: an instruction or the end, at most `low`
+-- bytes before instruction `at`, or `high` bytes behind it
 pub record IsInReach (low high count at target : ℕ) : Type 0 where
   pub exists : target ≤ count
   pub back : 4 * at ≤ 4 * target + low
@@ -95,7 +99,7 @@ pub record FitsJump (count at rd number : ℕ) : Type 0 where
   pub to : IsRegister rd
   pub target : IsJumpTarget count at number
 
--- the line of number `at`, of `count`, is an instruction of RV64IM, with its fields in the ranges of its form
+-- the instruction of number `at`, of `count`, is one of RV64IM, with its fields in the ranges of its form
 abbrev pub FitsLine : ℕ → ℕ → Line → Type 0
 FitsLine count at (ThreeLine code to left right) = FitsThree to left right
 FitsLine count at (ImmLine code to from imm) = FitsImm code to from imm
@@ -110,7 +114,7 @@ FitsLine count at Fence = Unit {0}
 FitsLine count at Ecall = Unit {0}
 FitsLine count at Ebreak = Unit {0}
 
--- lines that stand from number `at` on in a program of `count` lines
+-- instructions that stand from number `at` on in a program of `count`
 abbrev pub FitLines : ℕ → ℕ → List Line → Type 0
 FitLines count at [] = Unit {0}
 FitLines count at (line ∷ lines) = FitsLine count at line × FitLines count (at + 1) lines
@@ -137,11 +141,11 @@ AreInOrder (Out name ∷ kinds) = AreOuts (Out name ∷ kinds)
 AreInOrder (Scan number ∷ kinds) = AreScans 0 (Scan number ∷ kinds)
 
 -- the names of inputs and outputs
-abbrev pub names : List AreaKind → List (List ℕ)
-names [] = []
-names (In name ∷ kinds) = name ∷ names kinds
-names (Out name ∷ kinds) = name ∷ names kinds
-names (Scan number ∷ kinds) = names kinds
+abbrev pub area_names : List AreaKind → List (List ℕ)
+area_names [] = []
+area_names (In name ∷ kinds) = name ∷ area_names kinds
+area_names (Out name ∷ kinds) = name ∷ area_names kinds
+area_names (Scan number ∷ kinds) = area_names kinds
 
 -- the first area starts at this word, and each next one where the one before ends
 abbrev pub ArePacked : ℕ → List Area → Type 0
@@ -163,19 +167,19 @@ pub record IsArea (area : Area) : Type 0 where
 pub record AreAreas (areas : List Area) : Type 0 where
   pub each : AllByRecursion IsArea areas
   pub in_order : AreInOrder (map (λ area. area.kind) areas)
-  pub differ : AllPairs (λ one other. one ≢ other) (names (map (λ area. area.kind) areas))
+  pub differ : AllPairs (λ one other. one ≢ other) (area_names (map (λ area. area.kind) areas))
   pub packed : ArePacked 0 areas
 
--- what has a spelling, within the limits of the format
+-- what has a spelling, with at most `most_items` areas and instructions
 pub record Fits (header : Header) (areas : List Area) (lines : List Line) : Type 0 where
   pub steps : header.steps < 2 ^ 63
-  pub spill : header.spill ≤ 134217728
-  pub area_count : length areas ≤ 2 ^ 30
+  pub spill : header.spill ≤ most_words
+  pub area_count : length areas ≤ most_items
   pub in_block : AreAreas areas
-  pub line_count : length lines ≤ 2 ^ 30
+  pub line_count : length lines ≤ most_items
   pub in_form : FitLines (length lines) 0 lines
 
--- an assembly: parts that fit, with a place for each line
+-- what an `Assembly` holds: parts that fit, with a place for each instruction
 pub record IsAssembly (parts : Parts) : Type 0 where
   pub fits : Fits parts.header parts.areas parts.lines
   pub placed : length parts.places ≡ length parts.lines

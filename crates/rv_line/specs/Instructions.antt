@@ -1,3 +1,5 @@
+-- What one line of a text says, and which instruction of RV64IM that is: a mnemonic and the operands of its form, in the order of RISC-V
+-- assembly (RISC-V unprivileged ISA). What blanks, comments, labels and `.globl` look like is this project's own.
 use Rattle.std.specs.Prelude.{ℕ, ◌<◌, ◌≡◌, ℤ, pos, Bool, false, ◌&&◌, ◌||◌, ◌==◌, IsTrue, List, [], ◌∷◌, ◌++◌, length, codes, Contains}
 use Rattle.std.specs.List.{list_all}
 use Rattle.shapes_core.specs.Name.{is_letter, is_name_byte}
@@ -8,18 +10,18 @@ use Rattle.rv_line.specs.declared.line.Line.{Line}
 use Rattle.rv_line.specs.declared.line.Line.TheVariants.{Three as ThreeLine, Imm as ImmLine, Load as LoadLine, Store as StoreLine, Branch as BranchLine, Lui, Auipc, Jal, Jalr, Fence, Ecall, Ebreak}
 
 -- the space and the tab
-abbrev pub is_blank : ℕ → Bool
-is_blank byte = byte == 32 || byte == 9
+abbrev pub is_space_or_tab : ℕ → Bool
+is_space_or_tab byte = byte == 32 || byte == 9
 
 abbrev pub AreBlanks : List ℕ → Type 0
-AreBlanks text = IsTrue (list_all is_blank text)
+AreBlanks text = IsTrue (list_all is_space_or_tab text)
 
 -- nothing, or from `#` on
 abbrev pub IsComment : List ℕ → Type 0
 IsComment [] = Unit {0}
 IsComment (byte ∷ bytes) = byte ≡ 35
 
--- what a line says, between blanks, and before a comment
+-- what a line of the text says, between blanks, and before a comment
 pub record Says (line core : List ℕ) : Type 0 where
   pub lead : List ℕ
   pub trail : List ℕ
@@ -78,13 +80,13 @@ pub record TakesImm (core mnemonic : List ℕ) (registers : List (List ℕ)) (im
   pub number : IsSignedNumber digits imm
   pub takes : Takes core mnemonic (registers ++ digits ∷ [])
 
--- the same with a label, which stands for a line or the end
+-- the same with a label, which stands for an instruction or the end
 pub record TakesLabel (labels : List (List ℕ × ℕ)) (core mnemonic : List ℕ) (registers : List (List ℕ)) (target : ℕ) : Type 0 where
   pub name : List ℕ
   pub defined : Contains labels (name, target)
   pub takes : Takes core mnemonic (registers ++ name ∷ [])
 
--- an instruction of RV64IM: RISC-V unprivileged ISA, with the operands of each form in the order of its assembly
+-- what a line of the text says is this instruction of RV64IM, where the labels of the text are these
 abbrev pub SpellsLine : List (List ℕ × ℕ) → List ℕ → Line → Type 0
 SpellsLine labels core (ThreeLine code to left right) = Takes core (three_mnemonic code) (register_text to ∷ register_text left ∷ register_text right ∷ [])
 SpellsLine labels core (ImmLine code to from imm) = TakesImm core (imm_mnemonic code) (register_text to ∷ register_text from ∷ []) imm

@@ -5,6 +5,7 @@ pub mod Instructions
 pub mod Labels
 pub mod Mnemonics
 pub mod Numbers
+pub mod Operands
 pub mod Parts
 pub mod Rows
 pub mod SpellingExamples

@@ -1,3 +1,4 @@
+-- The spellings of a number in a text: decimal digits, and a `-` in front where it may be negative. This project's own.
 use Rattle.std.specs.Prelude.{ℕ, ◌≡◌, ℤ, if◌then◌else◌, List, [], ◌∷◌, drop}
 use Rattle.std.specs.Str.Parse.{IsNumeral, digits_value, signed_digits_value, starts_with_minus}
 

@@ -1,10 +1,11 @@
+-- What a program is to every contract: the parts that `Spells` has of a text, and how many words the block has. This project's own.
 use Rattle.std.specs.Prelude.{ℕ, ◌+◌, List, sum_by}
 use Rattle.shapes_core.specs.Shape.{total}
 use Rattle.shapes_core.specs.declared.area.Area.{Area}
 use Rattle.rv_line.specs.declared.assembly.Header.{Header}
 use Rattle.rv_line.specs.declared.line.Line.{Line}
 
--- what an assembly is: its header, the areas of its block, its lines, and the line of a text where each stands, counted from 1
+-- a program: its header, the areas of its block, its instructions, and for each of these the line of a text where it stands, counted from 1
 pub record Parts : Type 0 where
   pub header : Header
   pub areas : List Area

@@ -1,3 +1,4 @@
+-- The rows of a text, which say what the areas of the block are: which lines are taken for rows, and what each spells. This project's own.
 use Rattle.std.specs.Prelude.{ℕ, ◌+◌, ◌≡◌, Bool, ◌||◌, nat_eq, List, [], ◌∷◌, ◌++◌, codes}
 use Rattle.std.specs.List.{flat_map, starts_with}
 use Rattle.shapes_core.specs.declared.area.Area.{Area}

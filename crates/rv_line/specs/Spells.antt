@@ -1,5 +1,9 @@
+-- Which bytes are a text of which program: what a text means, whoever wrote it. It is said line by line what stands there, and what the
+-- program has of it. Blanks, comments, the names of labels and leading zeros are the writer's choice, so that a program has many texts, and
+-- yet a text has at most one program. This project's own, but for the instructions (`Instructions`).
 use Rattle.std.specs.Prelude.{ℕ, ◌+◌, ◌<◌, ◌≤◌, ◌≡◌, ◌≢◌, ◌^◌, false, List, [], ◌∷◌, ◌++◌, length, map, codes, AllPairs}
 use Rattle.std.specs.Str.Lines.{lines}
+use Rattle.shapes_core.specs.Limits.{most_words}
 use Rattle.rv_line.specs.Fits.{AreAreas, FitLines}
 use Rattle.rv_line.specs.Instructions.{Says, IsLabel, IsGlobal, SpellsLine}
 use Rattle.rv_line.specs.Numbers.{IsNumber}
@@ -13,8 +17,8 @@ pub data SaysNothing : List ℕ → Type 0 where
   section : {text : List ℕ} → Says text (codes ".text") → SaysNothing text
   global : {text : List ℕ} (core : List ℕ) → Says text core → IsGlobal core → SaysNothing text
 
--- the texts of lines, of which the first is line `place` of the whole text; the number of the next instruction, the instructions from it on,
--- the places where these stand, and the labels that these texts define. `labels` are those of the whole body
+-- lines of a text, of which the first is line `place` of the whole; the number of the next instruction, the instructions from it on, the
+-- places where these stand, and the labels that these lines define. `labels` are those of the whole body
 pub data SpellLines (labels : List (List ℕ × ℕ)) : List (List ℕ) → ℕ → ℕ → List Line → List ℕ → List (List ℕ × ℕ) → Type 0 where
   end : {place at : ℕ} → SpellLines labels [] place at [] [] []
   skip : {text : List ℕ} {texts : List (List ℕ)} {place at : ℕ} {program : List Line} {places : List ℕ} {defined : List (List ℕ × ℕ)} →
@@ -27,12 +31,12 @@ pub data SpellLines (labels : List (List ℕ × ℕ)) : List (List ℕ) → ℕ 
       Says text core → SpellsLine labels core line → SpellLines labels texts (place + 1) (at + 1) program places defined →
       SpellLines labels (text ∷ texts) place at (line ∷ program) (place ∷ places) defined
 
--- the areas' rows end where a line begins otherwise
+-- the areas' rows end where a line of the text begins otherwise
 abbrev pub EndsRows : List (List ℕ) → Type 0
 EndsRows [] = Unit {0}
 EndsRows (text ∷ texts) = is_row text ≡ false
 
--- the bytes are an assembly text with this header, these areas and these lines, which stand at these places of it
+-- the bytes are an assembly text with this header, these areas and these instructions, which stand on these lines of it
 pub record Spells (text : List ℕ) (parts : Parts) : Type 0 where
   pub steps : List ℕ
   pub spill : List ℕ
@@ -43,7 +47,7 @@ pub record Spells (text : List ℕ) (parts : Parts) : Type 0 where
   pub steps_number : IsNumber steps parts.header.steps
   pub steps_small : parts.header.steps < 2 ^ 63
   pub spill_number : IsNumber spill parts.header.spill
-  pub spill_small : parts.header.spill ≤ 134217728
+  pub spill_small : parts.header.spill ≤ most_words
   pub rows_spell : SpellRows rows parts.header.spill parts.areas
   pub rows_end : EndsRows body
   pub areas : AreAreas parts.areas

@@ -1,5 +1,6 @@
 // Programs with the areas that they work on.
 ghost use Rattle.std.specs.Prelude.{◌≡◌, ◌<◌, ◌≤◌, ◌*◌, ◌^◌, IfOk, length, slice_get, sum_by};
+ghost use Rattle.shapes_core.specs.Limits.{greatest_extent, most_items};
 ghost use Rattle.shapes_core.specs.Shape.{total};
 ghost use Rattle.rv_line.specs.Emitted.{emitted_places};
 ghost use Rattle.rv_line.specs.Fits.{Fits};
@@ -19,7 +20,7 @@ pub struct Header {
     pub spill: u64,
 }
 
-/// A program: its header, the areas of its block, its lines, and the line of a text where each
+/// A program: its header, the areas of its block, its instructions, and the line of a text where each of these
 /// stands, counted from 1. Contracts see these as `Parts`.
 #[derive(Drop)]
 pub struct Assembly {
@@ -51,7 +52,7 @@ impl Model for Assembly {
 }
 
 impl Assembly {
-    /// A program that is to be written by `text`: its lines stand where that text has them.
+    /// A program that is to be written by `text`: its instructions stand where that text has them.
     /// The condition is that this text is one of the format. Takes memory for the places.
     pub fn new(
         alloc: Global,
@@ -76,8 +77,8 @@ impl Assembly {
         })
     }
 
-    /// A program that stands in a text: `places` has the line of that text, counted from 1, where each of its lines
-    /// stands. The condition is that the program is one of the format. Takes no memory.
+    /// A program that stands in a text: `places` has the line of that text, counted from 1, where each of its
+    /// instructions stands. The condition is that the program is one of the format. Takes no memory.
     pub fn at_lines(
         header: Header,
         areas: Vec<Area>,
@@ -111,7 +112,7 @@ impl Assembly {
         &self.areas
     }
 
-    /// The lines.
+    /// The instructions, in order.
     pub fn lines(&self) -> &[Line]
         ensures value { result.now ≡ self.now.lines }
         ensures fits { Fits self.now.header self.now.areas self.now.lines }
@@ -126,7 +127,7 @@ impl Assembly {
         self.header.spill + area_words(&self.areas)
     }
 
-    /// The line of a text where this line of the program stands, counted from 1.
+    /// The line of the text, counted from 1, where the instruction of this number stands.
     pub fn text_line(&self, line: u32) -> u32
         requires { line < length self.now.lines }
         ensures { slice_get self.now.places line ≡ Some result }
@@ -137,9 +138,9 @@ impl Assembly {
 
 /// The words of all areas.
 fn area_words(areas: &[Area]) -> u64
-    requires { length areas.now ≤ 2 ^ 30 }
+    requires { length areas.now ≤ most_items }
     ensures value { result ≡ sum_by (λ area. total area.shape) areas.now }
-    ensures small { result ≤ 16777216 * length areas.now }
+    ensures small { result ≤ greatest_extent * length areas.now }
 {
     let mut words = 0;
     for area in areas {

@@ -1,5 +1,6 @@
 // The text of a program.
 ghost use Rattle.std.specs.Prelude.{◌≡◌, ◌+◌, ◌≤◌, ◌<◌, ◌++◌, ◌^◌, IfOk, OnOk, length};
+ghost use Rattle.shapes_core.specs.Limits.{most_items, most_words};
 ghost use Rattle.rv_line.specs.Emitted.{
   emitted,
   header_text,
@@ -54,8 +55,8 @@ fn push_header(out: &mut Vec<u8>, header: Header) -> Result<(), NoMemory>
 
 fn push_areas(out: &mut Vec<u8>, spill: u64, areas: &[Area]) -> Result<(), NoMemory>
     requires packed { ArePacked 0 areas.now }
-    requires count { length areas.now ≤ 2 ^ 30 }
-    requires spill { spill ≤ 134217728 }
+    requires count { length areas.now ≤ most_items }
+    requires spill { spill ≤ most_words }
     ensures { OnOk result (out.new.items ≡ out.old.items ++ areas_text spill areas.now) }
 {
     let mut offset = spill;
@@ -106,10 +107,10 @@ fn push_extents(out: &mut Vec<u8>, shape: &Shape) -> Result<(), NoMemory>
     Ok(())
 }
 
-/// The lines, each behind its label, and the label of the end.
+/// The instructions, each on a line behind that of its label, and the label of the end.
 fn push_lines(out: &mut Vec<u8>, lines: &[Line], labelled: &[bool]) -> Result<(), NoMemory>
     requires labels { AreLabels lines.now labelled.now }
-    requires count { length lines.now ≤ 2 ^ 30 }
+    requires count { length lines.now ≤ most_items }
     ensures { OnOk result (
         out.new.items ≡ out.old.items ++ lines_text (is_labelled lines.now) 0 lines.now
         ) }

@@ -6,7 +6,7 @@ ghost use Rattle.rv_line.specs.declared.line.Branch.TheVariants.{Bne};
 ghost use Rattle.rv_line.specs.declared.line.Line.TheVariants.{Branch as BranchLine, Jal};
 ghost use Rattle.shapes_core.specs.declared.area.AreaKind.TheVariants.{In, Out, Scan};
 
-/// The ranges of the fields of a line.
+/// The ranges of the fields of an instruction.
 pub fn field_examples()
     ensures least_immediate { AreLast signed_lines (negsuc 2047) (negsuc 2048) }
     ensures greatest_immediate { AreLast signed_lines (pos 2047) (pos 2048) }
@@ -18,7 +18,8 @@ pub fn field_examples()
     ensures greatest_register { AreLast register_lines 31 32 }
 {}
 
-/// How far a line may go: 1024 lines back and 1023 ahead by a branch, 262144 back and 262143 ahead by `jal`.
+/// How far an instruction may go: 1024 instructions back and 1023 ahead by a branch, 262144 back and 262143 ahead
+/// by `jal`.
 pub fn target_examples()
     ensures branch_back { IsLast (λ target. FitsLine 9000 4000 (BranchLine Bne 5 6 target)) 2976 2975 }
     ensures branch_ahead { IsLast (λ target. FitsLine 9000 4000 (BranchLine Bne 5 6 target)) 5023 5024 }

@@ -1,5 +1,5 @@
 // The text of an instruction.
-ghost use Rattle.std.specs.Prelude.{◌≡◌, ◌++◌, OnOk, codes};
+ghost use Rattle.std.specs.Prelude.{◌≡◌, ◌++◌, OnOk};
 ghost use Rattle.std.specs.Fmt.{decimal, signed_decimal};
 ghost use Rattle.rv_line.specs.Emitted.{
   instruction_text,
@@ -9,6 +9,7 @@ ghost use Rattle.rv_line.specs.Emitted.{
   two_operands,
   three_operands,
 };
+ghost use Rattle.rv_line.specs.Operands.{operand_text};
 
 use crate::line::Line;
 use itoa::Buffer;
@@ -58,113 +59,58 @@ pub fn push_label_name(out: &mut Vec<u8>, number: u32) -> Result<(), NoMemory>
     push_number(out, number as u64)
 }
 
-/// A mnemonic, a register and the comma behind it.
-fn push_first(out: &mut Vec<u8>, mnemonic: &str, register: u8) -> Result<(), NoMemory>
+/// The operand that stands last in an instruction.
+#[derive(Clone, Copy)]
+enum Operand {
+    Register(u8),
+    Signed(i32),
+    Unsigned(u32),
+    Address(i32, u8),
+    Label(u32),
+}
+
+fn push_operand(out: &mut Vec<u8>, operand: Operand) -> Result<(), NoMemory>
+    ensures { OnOk result (out.new.items ≡ out.old.items ++ operand_text operand) }
+{
+    match operand {
+        Operand::Register(register) => push_register(out, register),
+        Operand::Signed(imm) => push_signed(out, imm),
+        Operand::Unsigned(imm) => push_number(out, imm as u64),
+        Operand::Address(imm, base) => push_address(out, imm, base),
+        Operand::Label(target) => push_label_name(out, target),
+    }
+}
+
+/// A mnemonic, a register and one more operand.
+fn push_two(out: &mut Vec<u8>, mnemonic: &str, one: u8, two: Operand) -> Result<(), NoMemory>
     ensures { OnOk result (
         out.new.items ≡ out.old.items ++
-        (mnemonic.now ++ codes " " ++ register_text register ++ codes ", ")
+        two_operands mnemonic.now (register_text one) (operand_text two)
         ) }
 {
     push_text(out, mnemonic)?;
     push_text(out, " ")?;
-    push_register(out, register)?;
-    push_text(out, ", ")
+    push_register(out, one)?;
+    push_text(out, ", ")?;
+    push_operand(out, two)
 }
 
-/// A mnemonic, two registers and the comma behind each.
-fn push_two(out: &mut Vec<u8>, mnemonic: &str, one: u8, two: u8) -> Result<(), NoMemory>
-    ensures { OnOk result (
-        out.new.items ≡ out.old.items ++
-        (two_operands mnemonic.now (register_text one) (register_text two) ++ codes ", ")
-        ) }
-{
-    push_first(out, mnemonic, one)?;
-    push_register(out, two)?;
-    push_text(out, ", ")
-}
-
-fn push_three_registers(
+/// A mnemonic, two registers and one more operand.
+fn push_three(
     out: &mut Vec<u8>,
     mnemonic: &str,
-    to: u8,
-    left: u8,
-    right: u8,
+    one: u8,
+    two: u8,
+    three: Operand,
 ) -> Result<(), NoMemory>
     ensures { OnOk result (
         out.new.items ≡ out.old.items ++
-        three_operands mnemonic.now (register_text to) (register_text left) (register_text right)
+        three_operands mnemonic.now (register_text one) (register_text two) (operand_text three)
         ) }
 {
-    push_two(out, mnemonic, to, left)?;
-    push_register(out, right)
-}
-
-fn push_immediate(
-    out: &mut Vec<u8>,
-    mnemonic: &str,
-    to: u8,
-    from: u8,
-    imm: i32,
-) -> Result<(), NoMemory>
-    ensures { OnOk result (
-        out.new.items ≡ out.old.items ++
-        three_operands mnemonic.now (register_text to) (register_text from) (signed_decimal imm)
-        ) }
-{
-    push_two(out, mnemonic, to, from)?;
-    push_signed(out, imm)
-}
-
-fn push_access(
-    out: &mut Vec<u8>,
-    mnemonic: &str,
-    register: u8,
-    imm: i32,
-    base: u8,
-) -> Result<(), NoMemory>
-    ensures { OnOk result (
-        out.new.items ≡ out.old.items ++
-        two_operands mnemonic.now (register_text register) (address_text imm base)
-        ) }
-{
-    push_first(out, mnemonic, register)?;
-    push_address(out, imm, base)
-}
-
-fn push_branch(
-    out: &mut Vec<u8>,
-    mnemonic: &str,
-    left: u8,
-    right: u8,
-    target: u32,
-) -> Result<(), NoMemory>
-    ensures { OnOk result (
-        out.new.items ≡ out.old.items ++
-        three_operands mnemonic.now (register_text left) (register_text right) (label_name target)
-        ) }
-{
-    push_two(out, mnemonic, left, right)?;
-    push_label_name(out, target)
-}
-
-fn push_upper(out: &mut Vec<u8>, mnemonic: &str, to: u8, imm: u32) -> Result<(), NoMemory>
-    ensures { OnOk result (
-        out.new.items ≡ out.old.items ++
-        two_operands mnemonic.now (register_text to) (decimal imm)
-        ) }
-{
-    push_first(out, mnemonic, to)?;
-    push_number(out, imm as u64)
-}
-
-fn push_jump(out: &mut Vec<u8>, to: u8, target: u32) -> Result<(), NoMemory>
-    ensures { OnOk result (
-        out.new.items ≡ out.old.items ++
-        two_operands (codes "jal") (register_text to) (label_name target)
-        ) }
-{
-    push_first(out, "jal", to)?;
-    push_label_name(out, target)
+    push_two(out, mnemonic, one, Operand::Register(two))?;
+    push_text(out, ", ")?;
+    push_operand(out, three)
 }
 
 /// An instruction, without the blanks in front.
@@ -177,35 +123,35 @@ pub fn push_instruction(out: &mut Vec<u8>, line: &Line) -> Result<(), NoMemory>
             to,
             left,
             right,
-        } => push_three_registers(out, code.mnemonic(), to, left, right),
+        } => push_three(out, code.mnemonic(), to, left, Operand::Register(right)),
         Line::Imm {
             code,
             to,
             from,
             imm,
-        } => push_immediate(out, code.mnemonic(), to, from, imm),
+        } => push_three(out, code.mnemonic(), to, from, Operand::Signed(imm)),
         Line::Load {
             code,
             to,
             imm,
             base,
-        } => push_access(out, code.mnemonic(), to, imm, base),
+        } => push_two(out, code.mnemonic(), to, Operand::Address(imm, base)),
         Line::Store {
             code,
             from,
             imm,
             base,
-        } => push_access(out, code.mnemonic(), from, imm, base),
+        } => push_two(out, code.mnemonic(), from, Operand::Address(imm, base)),
         Line::Branch {
             code,
             left,
             right,
             target,
-        } => push_branch(out, code.mnemonic(), left, right, target),
-        Line::Lui { to, imm } => push_upper(out, "lui", to, imm),
-        Line::Auipc { to, imm } => push_upper(out, "auipc", to, imm),
-        Line::Jal { to, target } => push_jump(out, to, target),
-        Line::Jalr { to, imm, base } => push_access(out, "jalr", to, imm, base),
+        } => push_three(out, code.mnemonic(), left, right, Operand::Label(target)),
+        Line::Lui { to, imm } => push_two(out, "lui", to, Operand::Unsigned(imm)),
+        Line::Auipc { to, imm } => push_two(out, "auipc", to, Operand::Unsigned(imm)),
+        Line::Jal { to, target } => push_two(out, "jal", to, Operand::Label(target)),
+        Line::Jalr { to, imm, base } => push_two(out, "jalr", to, Operand::Address(imm, base)),
         Line::Fence => push_text(out, "fence"),
         Line::Ecall => push_text(out, "ecall"),
         Line::Ebreak => push_text(out, "ebreak"),

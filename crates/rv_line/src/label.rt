@@ -1,5 +1,6 @@
-// Which lines have a label, and where the lines stand in the emitted text.
+// Which instructions have a label, and on which lines of the emitted text they stand.
 ghost use Rattle.std.specs.Prelude.{◌≡◌, ◌+◌, ◌≤◌, ◌<◌, ◌^◌, ◌++◌, IfOk, OnOk, length};
+ghost use Rattle.shapes_core.specs.Limits.{most_items};
 ghost use Rattle.rv_line.specs.Emitted.{target_of, places_from, is_labelled, label_text};
 ghost use Rattle.rv_line.specs.Labels.{AreLabels, TargetsWithin};
 
@@ -8,7 +9,7 @@ use crate::line::Line;
 use shapes_core::NoMemory;
 use std::alloc::Global;
 
-/// The number of the line to which a line may go, besides the one behind it.
+/// The number of the instruction to which an instruction may go, besides the one behind it.
 fn target(line: &Line) -> Option<u32>
     ensures { result ≡ target_of line.now }
 {
@@ -19,10 +20,10 @@ fn target(line: &Line) -> Option<u32>
     }
 }
 
-/// For each line, and for the end, whether some line goes there.
+/// For each instruction, and for the end, whether some instruction goes there.
 pub fn labels(alloc: Global, lines: &[Line]) -> Result<Vec<bool>, NoMemory>
     requires targets { TargetsWithin (length lines.now) lines.now }
-    requires count { length lines.now ≤ 2 ^ 30 }
+    requires count { length lines.now ≤ most_items }
     ensures { IfOk result (λ labelled. AreLabels lines.now labelled.items) }
 {
     let mut labelled = vec![in alloc; false; lines.len() + 1]?;
@@ -34,7 +35,7 @@ pub fn labels(alloc: Global, lines: &[Line]) -> Result<Vec<bool>, NoMemory>
     Ok(labelled)
 }
 
-/// The places of the emitted text where the program's lines stand, and `first` is the place behind the
+/// The lines of the emitted text where the program's instructions stand. `first` is the line behind that of the
 /// program's own label.
 pub fn places(
     alloc: Global,
@@ -44,7 +45,7 @@ pub fn places(
 ) -> Result<Vec<u32>, NoMemory>
     requires labels { AreLabels lines.now labelled.now }
     requires first { first < 2 ^ 31 }
-    requires count { length lines.now ≤ 2 ^ 30 }
+    requires count { length lines.now ≤ most_items }
     ensures { IfOk result (λ places.
         places.items ≡ places_from (is_labelled lines.now) first 0 lines.now) }
 {

@@ -1,4 +1,4 @@
-// Assembly of RV64IM: its lines, and how they are spelled.
+// Assembly of RV64IM: its instructions, and the texts of programs.
 #![tactic(auto)]
 
 mod assembly;

@@ -1,4 +1,4 @@
-// The lines of an RV64IM program: one variant a form of the instruction set, one enum a form's mnemonics.
+// The instructions of an RV64IM program: one variant a form of the instruction set, one enum a form's mnemonics.
 
 /// The mnemonics with three registers, of RV64I and of its M extension.
 #[derive(Clone, Copy, Debug, PartialEq, Eq)]
@@ -83,8 +83,9 @@ pub enum Branch {
     Bgeu,
 }
 
-/// One instruction. Registers are numbered 0 to 31. A `target` is the number of a line, counted from 0, and
-/// the number of lines stands for the end.
+/// A `Line` is one instruction of a program; the rows, labels and comments of a text are none. Registers are
+/// numbered 0 to 31. A `target` is the number of an instruction, counted from 0, and the number of instructions
+/// stands for the end.
 #[derive(Clone, Copy, Debug, PartialEq, Eq)]
 pub enum Line {
     Three {

@@ -5,7 +5,7 @@ ghost use Rattle.rv_line.specs.Parts.{Parts};
 ghost use Rattle.rv_line.specs.Spells.{Spells};
 ghost use Rattle.std.specs.Prelude.{List, ℕ, ◌≡◌};
 
-/// A text spells at most one program, with one place for each of its lines.
+/// A text spells at most one program, with one line of the text for each of its instructions.
 pub fn texts_spell_one()
     ensures { (text : List ℕ) (p q : Parts) → Spells text p → Spells text q → p ≡ q }
 {}

@@ -1,5 +1,6 @@
-// What is written, byte for byte, and that many lines are written.
+// What is written, byte for byte, and that a long program is written.
 ghost use Rattle.std.specs.Prelude.{◌≡◌, ◌≤◌, ◌^◌, IfOk, length};
+ghost use Rattle.shapes_core.specs.Limits.{most_items};
 ghost use Rattle.rv_line.specs.Fits.{FitLines};
 ghost use Rattle.rv_line.specs.declared.line.Line.TheVariants.{
   Three as ThreeLine,
@@ -9,9 +10,11 @@ ghost use Rattle.rv_line.specs.declared.line.Line.TheVariants.{
   Branch as BranchLine,
 };
 
+use crate::instruction::push_instruction;
 use crate::{Assembly, Branch, Header, Imm, Line, Load, Store, Three, text};
 use shapes_core::{Area, AreaKind, Name, NoMemory, Shape};
 use std::alloc::Global;
+use std::process::Abort;
 
 fn three(code: Three) -> Line
     ensures { result ≡ ThreeLine code 1 2 31 }
@@ -68,80 +71,144 @@ fn branch(code: Branch, target: u32) -> Line
     }
 }
 
+/// Each of these instructions is written as the text beside it.
+fn each_is_written(rt: &impl Abort, alloc: Global, rows: &[(Line, &str)]) -> Result<(), NoMemory> {
+    for (line, expected) in rows {
+        let mut out = vec![in alloc]?;
+        push_instruction(&mut out, line)?;
+        assert!(rt; out.as_slice() == expected.as_bytes(), "{expected}");
+    }
+    Ok(())
+}
+
 #[test]
-fn every_mnemonic_is_written(rt: HostRuntime) -> Result<(), NoMemory> {
+fn instructions_with_three_registers_are_written(rt: HostRuntime) -> Result<(), NoMemory> {
+    each_is_written(
+        &rt,
+        rt.alloc(),
+        &[
+            (three(Three::Add), "add x1, x2, x31"),
+            (three(Three::Sub), "sub x1, x2, x31"),
+            (three(Three::Sll), "sll x1, x2, x31"),
+            (three(Three::Slt), "slt x1, x2, x31"),
+            (three(Three::Sltu), "sltu x1, x2, x31"),
+            (three(Three::Xor), "xor x1, x2, x31"),
+            (three(Three::Srl), "srl x1, x2, x31"),
+            (three(Three::Sra), "sra x1, x2, x31"),
+            (three(Three::Or), "or x1, x2, x31"),
+            (three(Three::And), "and x1, x2, x31"),
+            (three(Three::Mul), "mul x1, x2, x31"),
+            (three(Three::Mulh), "mulh x1, x2, x31"),
+            (three(Three::Mulhsu), "mulhsu x1, x2, x31"),
+            (three(Three::Mulhu), "mulhu x1, x2, x31"),
+            (three(Three::Div), "div x1, x2, x31"),
+            (three(Three::Divu), "divu x1, x2, x31"),
+            (three(Three::Rem), "rem x1, x2, x31"),
+            (three(Three::Remu), "remu x1, x2, x31"),
+            (three(Three::Addw), "addw x1, x2, x31"),
+            (three(Three::Subw), "subw x1, x2, x31"),
+            (three(Three::Sllw), "sllw x1, x2, x31"),
+            (three(Three::Srlw), "srlw x1, x2, x31"),
+            (three(Three::Sraw), "sraw x1, x2, x31"),
+            (three(Three::Mulw), "mulw x1, x2, x31"),
+            (three(Three::Divw), "divw x1, x2, x31"),
+            (three(Three::Divuw), "divuw x1, x2, x31"),
+            (three(Three::Remw), "remw x1, x2, x31"),
+            (three(Three::Remuw), "remuw x1, x2, x31"),
+        ],
+    )
+}
+
+#[test]
+fn instructions_with_an_immediate_are_written(rt: HostRuntime) -> Result<(), NoMemory> {
+    each_is_written(
+        &rt,
+        rt.alloc(),
+        &[
+            (immediate(Imm::Addi, -2048), "addi x7, x0, -2048"),
+            (immediate(Imm::Slti, 2047), "slti x7, x0, 2047"),
+            (immediate(Imm::Sltiu, -1), "sltiu x7, x0, -1"),
+            (immediate(Imm::Xori, 0), "xori x7, x0, 0"),
+            (immediate(Imm::Ori, 1), "ori x7, x0, 1"),
+            (immediate(Imm::Andi, 15), "andi x7, x0, 15"),
+            (immediate(Imm::Slli, 63), "slli x7, x0, 63"),
+            (immediate(Imm::Srli, 0), "srli x7, x0, 0"),
+            (immediate(Imm::Srai, 1), "srai x7, x0, 1"),
+            (immediate(Imm::Addiw, -7), "addiw x7, x0, -7"),
+            (immediate(Imm::Slliw, 31), "slliw x7, x0, 31"),
+            (immediate(Imm::Srliw, 5), "srliw x7, x0, 5"),
+            (immediate(Imm::Sraiw, 0), "sraiw x7, x0, 0"),
+        ],
+    )
+}
+
+#[test]
+fn loads_and_stores_are_written(rt: HostRuntime) -> Result<(), NoMemory> {
+    each_is_written(
+        &rt,
+        rt.alloc(),
+        &[
+            (load(Load::Lb, -2048), "lb x5, -2048(x10)"),
+            (load(Load::Lh, 2047), "lh x5, 2047(x10)"),
+            (load(Load::Lw, 0), "lw x5, 0(x10)"),
+            (load(Load::Ld, 8), "ld x5, 8(x10)"),
+            (load(Load::Lbu, -8), "lbu x5, -8(x10)"),
+            (load(Load::Lhu, 1), "lhu x5, 1(x10)"),
+            (load(Load::Lwu, 4), "lwu x5, 4(x10)"),
+            (store(Store::Sb, -2048), "sb x6, -2048(x10)"),
+            (store(Store::Sh, 2047), "sh x6, 2047(x10)"),
+            (store(Store::Sw, 4), "sw x6, 4(x10)"),
+            (store(Store::Sd, -8), "sd x6, -8(x10)"),
+        ],
+    )
+}
+
+#[test]
+fn the_other_instructions_are_written(rt: HostRuntime) -> Result<(), NoMemory> {
+    each_is_written(
+        &rt,
+        rt.alloc(),
+        &[
+            (branch(Branch::Beq, 0), "beq x8, x9, .L0"),
+            (branch(Branch::Bne, 0), "bne x8, x9, .L0"),
+            (branch(Branch::Blt, 28), "blt x8, x9, .L28"),
+            (branch(Branch::Bge, 65), "bge x8, x9, .L65"),
+            (branch(Branch::Bltu, 64), "bltu x8, x9, .L64"),
+            (branch(Branch::Bgeu, 28), "bgeu x8, x9, .L28"),
+            (Line::Lui { to: 5, imm: 524288 }, "lui x5, 524288"),
+            (
+                Line::Auipc {
+                    to: 31,
+                    imm: 1048575,
+                },
+                "auipc x31, 1048575",
+            ),
+            (Line::Jal { to: 1, target: 65 }, "jal x1, .L65"),
+            (
+                Line::Jalr {
+                    to: 0,
+                    imm: -4,
+                    base: 1,
+                },
+                "jalr x0, -4(x1)",
+            ),
+            (Line::Fence, "fence"),
+            (Line::Ecall, "ecall"),
+            (Line::Ebreak, "ebreak"),
+        ],
+    )
+}
+
+#[test]
+fn labels_stand_before_their_instructions(rt: HostRuntime) -> Result<(), NoMemory> {
     let lines = vec![in rt.alloc();
-        three(Three::Add),
-        three(Three::Sub),
-        three(Three::Sll),
-        three(Three::Slt),
-        three(Three::Sltu),
-        three(Three::Xor),
-        three(Three::Srl),
-        three(Three::Sra),
-        three(Three::Or),
-        three(Three::And),
-        three(Three::Mul),
-        three(Three::Mulh),
-        three(Three::Mulhsu),
-        three(Three::Mulhu),
-        three(Three::Div),
-        three(Three::Divu),
-        three(Three::Rem),
-        three(Three::Remu),
-        three(Three::Addw),
-        three(Three::Subw),
-        three(Three::Sllw),
-        three(Three::Srlw),
-        three(Three::Sraw),
-        three(Three::Mulw),
-        three(Three::Divw),
-        three(Three::Divuw),
-        three(Three::Remw),
-        three(Three::Remuw),
-        immediate(Imm::Addi, -2048),
-        immediate(Imm::Slti, 2047),
-        immediate(Imm::Sltiu, -1),
-        immediate(Imm::Xori, 0),
-        immediate(Imm::Ori, 1),
-        immediate(Imm::Andi, 15),
-        immediate(Imm::Slli, 63),
-        immediate(Imm::Srli, 0),
-        immediate(Imm::Srai, 1),
-        immediate(Imm::Addiw, -7),
-        immediate(Imm::Slliw, 31),
-        immediate(Imm::Srliw, 5),
-        immediate(Imm::Sraiw, 0),
-        load(Load::Lb, -2048),
-        load(Load::Lh, 2047),
-        load(Load::Lw, 0),
-        load(Load::Ld, 8),
-        load(Load::Lbu, -8),
-        load(Load::Lhu, 1),
-        load(Load::Lwu, 4),
-        store(Store::Sb, -2048),
-        store(Store::Sh, 2047),
-        store(Store::Sw, 4),
-        store(Store::Sd, -8),
         branch(Branch::Beq, 0),
         branch(Branch::Bne, 0),
-        branch(Branch::Blt, 28),
-        branch(Branch::Bge, 65),
-        branch(Branch::Bltu, 64),
-        branch(Branch::Bgeu, 28),
-        Line::Lui { to: 5, imm: 524288 },
-        Line::Auipc {
-            to: 31,
-            imm: 1048575
-        },
-        Line::Jal { to: 1, target: 65 },
-        Line::Jalr {
-            to: 0,
-            imm: -4,
-            base: 1
-        },
-        Line::Fence,
-        Line::Ecall,
+        branch(Branch::Blt, 4),
+        branch(Branch::Bge, 8),
+        branch(Branch::Bltu, 7),
+        branch(Branch::Bgeu, 4),
+        Line::Jal { to: 1, target: 8 },
         Line::Ebreak,
     ]?;
     let header = Header {
@@ -150,7 +217,7 @@ fn every_mnemonic_is_written(rt: HostRuntime) -> Result<(), NoMemory> {
     };
     let program = Assembly::new(rt.alloc(), header, vec![in rt.alloc()]?, lines)?;
     let bytes = text(rt.alloc(), &program)?;
-    assert!(rt; bytes.as_slice() == EVERY_MNEMONIC);
+    assert!(rt; bytes.as_slice() == LABELS);
     Ok(())
 }
 
@@ -197,9 +264,9 @@ fn rows_have_offsets_in_the_block(rt: HostRuntime) -> Result<(), NoMemory> {
     Ok(())
 }
 
-/// So many lines, each of which branches to the line behind it.
+/// So many instructions, each of which branches to the one behind it.
 fn many(alloc: Global, count: usize) -> Result<Vec<Line>, NoMemory>
-    requires { count ≤ 2 ^ 30 }
+    requires { count ≤ most_items }
     ensures { IfOk result (λ lines. (length lines.items ≡ count) × FitLines count 0 lines.items) }
 {
     let mut lines = Vec::with_capacity(alloc, count)?;
@@ -240,81 +307,24 @@ psi_main:\n\
 .L1:\n\
 \x20   fence\n";
 
-const EVERY_MNEMONIC: &[u8] = b"# psi 1\n\
+const LABELS: &[u8] = b"# psi 1\n\
 # steps 9223372036854775807\n\
 # spill 3\n\
 .text\n\
 .globl psi_main\n\
 psi_main:\n\
 .L0:\n\
-\x20   add x1, x2, x31\n\
-\x20   sub x1, x2, x31\n\
-\x20   sll x1, x2, x31\n\
-\x20   slt x1, x2, x31\n\
-\x20   sltu x1, x2, x31\n\
-\x20   xor x1, x2, x31\n\
-\x20   srl x1, x2, x31\n\
-\x20   sra x1, x2, x31\n\
-\x20   or x1, x2, x31\n\
-\x20   and x1, x2, x31\n\
-\x20   mul x1, x2, x31\n\
-\x20   mulh x1, x2, x31\n\
-\x20   mulhsu x1, x2, x31\n\
-\x20   mulhu x1, x2, x31\n\
-\x20   div x1, x2, x31\n\
-\x20   divu x1, x2, x31\n\
-\x20   rem x1, x2, x31\n\
-\x20   remu x1, x2, x31\n\
-\x20   addw x1, x2, x31\n\
-\x20   subw x1, x2, x31\n\
-\x20   sllw x1, x2, x31\n\
-\x20   srlw x1, x2, x31\n\
-\x20   sraw x1, x2, x31\n\
-\x20   mulw x1, x2, x31\n\
-\x20   divw x1, x2, x31\n\
-\x20   divuw x1, x2, x31\n\
-\x20   remw x1, x2, x31\n\
-\x20   remuw x1, x2, x31\n\
-.L28:\n\
-\x20   addi x7, x0, -2048\n\
-\x20   slti x7, x0, 2047\n\
-\x20   sltiu x7, x0, -1\n\
-\x20   xori x7, x0, 0\n\
-\x20   ori x7, x0, 1\n\
-\x20   andi x7, x0, 15\n\
-\x20   slli x7, x0, 63\n\
-\x20   srli x7, x0, 0\n\
-\x20   srai x7, x0, 1\n\
-\x20   addiw x7, x0, -7\n\
-\x20   slliw x7, x0, 31\n\
-\x20   srliw x7, x0, 5\n\
-\x20   sraiw x7, x0, 0\n\
-\x20   lb x5, -2048(x10)\n\
-\x20   lh x5, 2047(x10)\n\
-\x20   lw x5, 0(x10)\n\
-\x20   ld x5, 8(x10)\n\
-\x20   lbu x5, -8(x10)\n\
-\x20   lhu x5, 1(x10)\n\
-\x20   lwu x5, 4(x10)\n\
-\x20   sb x6, -2048(x10)\n\
-\x20   sh x6, 2047(x10)\n\
-\x20   sw x6, 4(x10)\n\
-\x20   sd x6, -8(x10)\n\
 \x20   beq x8, x9, .L0\n\
 \x20   bne x8, x9, .L0\n\
-\x20   blt x8, x9, .L28\n\
-\x20   bge x8, x9, .L65\n\
-\x20   bltu x8, x9, .L64\n\
-\x20   bgeu x8, x9, .L28\n\
-\x20   lui x5, 524288\n\
-\x20   auipc x31, 1048575\n\
-\x20   jal x1, .L65\n\
-\x20   jalr x0, -4(x1)\n\
-\x20   fence\n\
-\x20   ecall\n\
-.L64:\n\
+\x20   blt x8, x9, .L4\n\
+\x20   bge x8, x9, .L8\n\
+.L4:\n\
+\x20   bltu x8, x9, .L7\n\
+\x20   bgeu x8, x9, .L4\n\
+\x20   jal x1, .L8\n\
+.L7:\n\
 \x20   ebreak\n\
-.L65:\n";
+.L8:\n";
 
 #[test]
 fn a_program_keeps_the_places_that_it_has_in_a_text(rt: HostRuntime) -> Result<(), NoMemory> {

@@ -1,2 +1,2 @@
-mod Budgets
-mod Walks
+mod BudgetLemmas
+mod WalkLemmas

@@ -1,5 +1,6 @@
 // A run of a program.
 ghost use Rattle.std.specs.Prelude.{if◌then◌else◌, ◌==◌, ◌≡◌, ◌+◌, ◌%◌, ◌^◌, ◌<◌, ◌≤◌, Some, length, slice_get, slice_index};
+ghost use Rattle.shapes_core.specs.Limits.{most_items};
 ghost use Rattle.rv_line.specs.Fits.{FitLines, FitsLine};
 ghost use Rattle.rv_machine.specs.Views.{config_of, end_of};
 ghost use Rattle.rv_steps.specs.Machine.{address_of};
@@ -82,7 +83,7 @@ fn walk(
     budget: u64,
 ) -> Last
     requires fits { FitLines (length lines.now) 0 lines.now }
-    requires count { length lines.now ≤ 2 ^ 30 }
+    requires count { length lines.now ≤ most_items }
     requires start { start ≤ length lines.now }
     requires aligned { base % 8 ≡ 0 }
     requires room { base + length block.old ≤ 2 ^ 64 }
@@ -124,7 +125,7 @@ fn walk(
 
 /// An end at a line, or at the end of the text.
 fn ended_at(end: End, at: usize) -> Last
-    requires { at ≤ 2 ^ 30 }
+    requires { at ≤ most_items }
     ensures end { result.end ≡ end }
     ensures pc { result.pc ≡ address_of at }
 {

@@ -1,5 +1,6 @@
 // What one line does to the registers and the block, and where the run goes on.
 ghost use Rattle.std.specs.Prelude.{◌≡◌, ◌%◌, ◌+◌, ◌^◌, ◌<◌, ◌≤◌, List, MatchOption, if◌then◌else◌, length, slice_index, ℕ};
+ghost use Rattle.shapes_core.specs.Limits.{most_items};
 ghost use Rattle.rv_line.specs.Fits.{FitsLine, IsRegister};
 ghost use Rattle.rv_steps.specs.Machine.{Goes, address, with_register};
 ghost use Rattle.rv_machine.specs.Flows.{IsUnchanged, IsWithin, Steps, next_of};
@@ -77,7 +78,7 @@ fn branched(taken: bool, target: u32) -> Flow
 /// On to an address, which may be that of no line.
 #[inline]
 fn jumped(address: u64, count: usize) -> Flow
-    requires { count ≤ 2 ^ 30 }
+    requires { count ≤ most_items }
     ensures within { IsWithin count result }
     ensures goes { (before after : List ℕ) → IsUnchanged result before after }
     ensures next { (at : ℕ) (registers block : List ℕ) → next_of at result registers block
@@ -101,7 +102,7 @@ pub fn step(
 ) -> Flow
     requires fits { FitsLine count at line }
     requires within { at < count }
-    requires count { count ≤ 2 ^ 30 }
+    requires count { count ≤ most_items }
     requires aligned { base % 8 ≡ 0 }
     requires room { base + length block.old ≤ 2 ^ 64 }
     requires zero { slice_index x.old 0 ≡ 0 }

@@ -1,5 +1,6 @@
 // Runs of small programs: one to the end, and one for each other end.
 ghost use Rattle.std.specs.Prelude.{◌≡◌, ◌%◌, ◌+◌, ◌^◌, ◌≤◌, IfOk, List, [], ◌∷◌, length, slice_index};
+ghost use Rattle.shapes_core.specs.Limits.{most_items};
 ghost use Rattle.rv_line.specs.Fits.{FitLines};
 
 use crate::{End, Regs, run};
@@ -12,7 +13,7 @@ const BASE: u64 = 4294967296;
 /// A program with no areas.
 fn program(alloc: Global, lines: Vec<Line>) -> Result<Assembly, NoMemory>
     requires fits { FitLines (length lines.items) 0 lines.items }
-    requires count { length lines.items ≤ 2 ^ 30 }
+    requires count { length lines.items ≤ most_items }
 {
     let header = Header { steps: 0, spill: 0 };
     Assembly::new(alloc, header, vec![in alloc]?, lines)

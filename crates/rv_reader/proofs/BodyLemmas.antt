@@ -1,8 +1,8 @@
+-- Texts that spell lines are read as them, and texts that are not refused spell what is read of them.
 use Rattle.std.proofs.Common.{◌≡◌, ℕ, ◌+◌, ◌≤◌, List, [], ◌∷◌, ◌++◌, length, refl, sym, ap, subst, ◌∙◌, arith, append_assoc}
 use Rattle.std.specs.Bool.{Decides}
 use Rattle.std.specs.Prelude.{Bool, true, false, ◌≢◌, cond, AllPairs, map}
 use Rattle.std.specs.List.{AllByRecursion, AllZip, IsDistinct, list_any}
-use Rattle.std.specs.declared.option.Option.{Option}
 use Rattle.std.specs.declared.option.Option.TheVariants.{None, Some}
 use Rattle.std.specs.declared.result.Result.{Result}
 use Rattle.std.specs.declared.result.Result.TheVariants.{Ok, Err}
@@ -23,7 +23,7 @@ use Rattle.rv_reader.proofs.CutLemmas.{same_true, same_itself, core_is, true_not
 use Rattle.rv_reader.proofs.InstructionLemmas.{Aims, line_read}
 use Rattle.rv_reader.proofs.OperandLemmas.{none_not_some}
 use Rattle.rv_reader.proofs.ReadingLemmas.{IsReadingOf, nothing_read, label_read, reads_back}
-use Rattle.rv_reader.proofs.SettleLemmas.{settled_back}
+use Rattle.rv_reader.proofs.SettleLemmas.{refused_back, settled_back}
 
 same_decides : (one other : List ℕ) → Decides (same one other) (one ≡ other)
 same_decides one other = (same_true one other, λ e. ap (same one) (sym e) ∙ same_itself one)
@@ -179,14 +179,10 @@ front_back labels count text texts place at before (Ok (Defines name)) within is
     by_known true h = absurd (none_not_some (sym h))
     by_known false h = h
 front_back labels count text texts place at before (Ok (Codes draft)) within is none aimed others =
-    let causes = by_cause (target_cause labels at draft) aimed in
+    let causes = refused_back place (target_cause labels at draft) (targets_refusal labels (at + 1) (drafts_of texts) (places_of (place + 1) texts)) aimed in
     let rest = others (at + 1) (before ++ []) none causes.1 in
     let here = settled_back labels count at is.0 draft within is.2 causes.0 in
     record { spells = instruction is.0 is.1 here.spells rest.spells; fits = (here.fits, rest.fits) }
-  where
-    by_cause : (cause : Option ℕ) → refused_or place cause (targets_refusal labels (at + 1) (drafts_of texts) (places_of (place + 1) texts)) ≡ None → (cause ≡ None) × (targets_refusal labels (at + 1) (drafts_of texts) (places_of (place + 1) texts) ≡ None)
-    by_cause None h = (refl, h)
-    by_cause (Some cause) h = absurd (none_not_some (sym h))
 
 -- texts that are not refused spell what is read
 pub body_back : (labels : List (List ℕ × ℕ)) (count : ℕ) (texts : List (List ℕ)) (place at : ℕ) (before : List (List ℕ)) → AllByRecursion (λ l. l.1 ≤ count) labels → body_refusal place before texts ≡ None → targets_refusal labels at (drafts_of texts) (places_of place texts) ≡ None → IsBody labels count texts place at

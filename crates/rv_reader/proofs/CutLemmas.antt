@@ -1,10 +1,11 @@
+-- Lists that are cut at the first item that passes a test, and lines without their comments and the blanks at both ends.
 use Rattle.std.proofs.Common.{◌≡◌, ℕ, List, [], ◌∷◌, ◌++◌, refl, sym, ap, ◌∙◌, append_assoc}
 use Rattle.std.specs.Prelude.{Bool, true, false, not, ◌==◌}
 use Rattle.std.specs.List.{list_all}
 use Rattle.std.specs.Cmp.Lexicographic.{same_text}
 use Rattle.std.proofs.lemmas.Bool.{and_parts, and_left, and_right, eq-eqb, eqb-true, ne_eqb, not-true}
 use Rattle.std.proofs.lemmas.List.Folds.{list_all-append}
-use Rattle.rv_line.specs.Instructions.{is_blank, AreBlanks, IsComment, Says}
+use Rattle.rv_line.specs.Instructions.{is_space_or_tab, AreBlanks, IsComment, Says}
 use Rattle.rv_reader.specs.Cuts.{same, until, since, without_lead, without_trail, trimmed, core_of}
 
 pub true_not_false : true ≡ false → ⊥
@@ -79,12 +80,12 @@ none_is p c fails = all_weaker p (λ byte. not (byte == c)) (λ byte passes. rw 
 
 -- nothing, or a first byte that is no blank
 abbrev pub leads : List ℕ → Bool
-leads text = begins (λ byte. not (is_blank byte)) text
+leads text = begins (λ byte. not (is_space_or_tab byte)) text
 
 -- nothing, or a last byte that is no blank
 abbrev pub trails : List ℕ → Bool
 trails [] = true
-trails (byte ∷ []) = not (is_blank byte)
+trails (byte ∷ []) = not (is_space_or_tab byte)
 trails (byte ∷ other ∷ bytes) = trails (other ∷ bytes)
 
 pub trails-append : (xs : List ℕ) (byte : ℕ) (bytes : List ℕ) → trails (xs ++ byte ∷ bytes) ≡ trails (byte ∷ bytes)
@@ -92,9 +93,9 @@ trails-append [] byte bytes = refl
 trails-append (x ∷ []) byte bytes = refl
 trails-append (x ∷ y ∷ xs) byte bytes = trails-append (y ∷ xs) byte bytes
 
-blanks_trail : (byte : ℕ) (bytes : List ℕ) → list_all is_blank (byte ∷ bytes) ≡ true → trails (byte ∷ bytes) ≡ false
-blanks_trail byte [] blanks = rw (and_parts (is_blank byte) true blanks).0 refl
-blanks_trail byte (other ∷ bytes) blanks = blanks_trail other bytes (and_parts (is_blank byte) (list_all is_blank (other ∷ bytes)) blanks).1
+blanks_trail : (byte : ℕ) (bytes : List ℕ) → list_all is_space_or_tab (byte ∷ bytes) ≡ true → trails (byte ∷ bytes) ≡ false
+blanks_trail byte [] blanks = rw (and_parts (is_space_or_tab byte) true blanks).0 refl
+blanks_trail byte (other ∷ bytes) blanks = blanks_trail other bytes (and_parts (is_space_or_tab byte) (list_all is_space_or_tab (other ∷ bytes)) blanks).1
 
 -- blanks stand at no end without blanks
 pub no_trail : (xs trail : List ℕ) → trails (xs ++ trail) ≡ true → AreBlanks trail → trail ≡ []
@@ -102,30 +103,30 @@ no_trail xs [] ends blanks = refl
 no_trail xs (byte ∷ trail) ends blanks =
     absurd (true_not_false (sym ends ∙ trails-append xs byte trail ∙ blanks_trail byte trail blanks))
 
-pub solid_trails : (text : List ℕ) → list_all (λ byte. not (is_blank byte)) text ≡ true → trails text ≡ true
+pub solid_trails : (text : List ℕ) → list_all (λ byte. not (is_space_or_tab byte)) text ≡ true → trails text ≡ true
 solid_trails [] solid = refl
-solid_trails (byte ∷ []) solid = (and_parts (not (is_blank byte)) true solid).0
-solid_trails (byte ∷ other ∷ bytes) solid = solid_trails (other ∷ bytes) (and_parts (not (is_blank byte)) (list_all (λ b. not (is_blank b)) (other ∷ bytes)) solid).1
+solid_trails (byte ∷ []) solid = (and_parts (not (is_space_or_tab byte)) true solid).0
+solid_trails (byte ∷ other ∷ bytes) solid = solid_trails (other ∷ bytes) (and_parts (not (is_space_or_tab byte)) (list_all (λ b. not (is_space_or_tab b)) (other ∷ bytes)) solid).1
 
-pub solid_leads : (text : List ℕ) → list_all (λ byte. not (is_blank byte)) text ≡ true → leads text ≡ true
+pub solid_leads : (text : List ℕ) → list_all (λ byte. not (is_space_or_tab byte)) text ≡ true → leads text ≡ true
 solid_leads [] solid = refl
-solid_leads (byte ∷ bytes) solid = (and_parts (not (is_blank byte)) (list_all (λ b. not (is_blank b)) bytes) solid).0
+solid_leads (byte ∷ bytes) solid = (and_parts (not (is_space_or_tab byte)) (list_all (λ b. not (is_space_or_tab b)) bytes) solid).0
 
 pub lead_off : (lead rest : List ℕ) → AreBlanks lead → without_lead (lead ++ rest) ≡ without_lead rest
 lead_off [] rest blanks = refl
 lead_off (byte ∷ lead) rest blanks =
-    let parts = and_parts (is_blank byte) (list_all is_blank lead) blanks in
+    let parts = and_parts (is_space_or_tab byte) (list_all is_space_or_tab lead) blanks in
     rw parts.0 (lead_off lead rest parts.1)
 
 blanks_off : (trail : List ℕ) → AreBlanks trail → without_lead trail ≡ []
 blanks_off [] blanks = refl
 blanks_off (byte ∷ trail) blanks =
-    let parts = and_parts (is_blank byte) (list_all is_blank trail) blanks in
+    let parts = and_parts (is_space_or_tab byte) (list_all is_space_or_tab trail) blanks in
     rw parts.0 (blanks_off trail parts.1)
 
-not_all_blank : (byte : ℕ) (bytes : List ℕ) (trail : List ℕ) → trails (byte ∷ bytes) ≡ true → list_all is_blank (byte ∷ (bytes ++ trail)) ≡ false
-not_all_blank byte [] trail ends = and_left (is_blank byte) (list_all is_blank trail) (not-true (is_blank byte) ends)
-not_all_blank byte (other ∷ bytes) trail ends = and_right (is_blank byte) (list_all is_blank (other ∷ (bytes ++ trail))) (not_all_blank other bytes trail ends)
+not_all_blank : (byte : ℕ) (bytes : List ℕ) (trail : List ℕ) → trails (byte ∷ bytes) ≡ true → list_all is_space_or_tab (byte ∷ (bytes ++ trail)) ≡ false
+not_all_blank byte [] trail ends = and_left (is_space_or_tab byte) (list_all is_space_or_tab trail) (not-true (is_space_or_tab byte) ends)
+not_all_blank byte (other ∷ bytes) trail ends = and_right (is_space_or_tab byte) (list_all is_space_or_tab (other ∷ (bytes ++ trail))) (not_all_blank other bytes trail ends)
 
 trail_blanks : (trail : List ℕ) → AreBlanks trail → without_trail trail ≡ []
 trail_blanks [] blanks = refl
@@ -140,7 +141,7 @@ trail_off byte (other ∷ bytes) trail ends blanks =
 pub trimmed_is : (lead core trail : List ℕ) → AreBlanks lead → AreBlanks trail → leads core ≡ true → trails core ≡ true → trimmed (lead ++ (core ++ trail)) ≡ core
 trimmed_is lead [] trail before behind first last = ap without_trail (lead_off lead trail before ∙ blanks_off trail behind)
 trimmed_is lead (byte ∷ bytes) trail before behind first last =
-    let solid : is_blank byte ≡ false = not-true (is_blank byte) first in
+    let solid : is_space_or_tab byte ≡ false = not-true (is_space_or_tab byte) first in
     let front : without_lead (byte ∷ (bytes ++ trail)) ≡ byte ∷ (bytes ++ trail) = rw solid refl in
     ap without_trail (lead_off lead (byte ∷ (bytes ++ trail)) before ∙ front) ∙ trail_off byte bytes trail last behind
 
@@ -153,19 +154,19 @@ pub record IsTrailed (text : List ℕ) : Type 0 where
 
 pub trailed : (text : List ℕ) → IsTrailed text
 trailed [] = record { trail = []; whole = refl; blanks = refl; ends = refl }
-trailed (byte ∷ bytes) = by_test (list_all is_blank (byte ∷ bytes)) refl (trailed bytes)
+trailed (byte ∷ bytes) = by_test (list_all is_space_or_tab (byte ∷ bytes)) refl (trailed bytes)
   where
-    ends_at : (rest : List ℕ) → without_trail bytes ≡ rest → (list_all is_blank (byte ∷ bytes)) ≡ false → IsTrailed bytes → trails (byte ∷ rest) ≡ true
+    ends_at : (rest : List ℕ) → without_trail bytes ≡ rest → (list_all is_space_or_tab (byte ∷ bytes)) ≡ false → IsTrailed bytes → trails (byte ∷ rest) ≡ true
     ends_at [] is not_all behind =
-        let all : list_all is_blank bytes ≡ true = rw (behind.whole ∙ ap (λ front. front ++ behind.trail) is) behind.blanks in
-        byte_solid (is_blank byte) refl all
+        let all : list_all is_space_or_tab bytes ≡ true = rw (behind.whole ∙ ap (λ front. front ++ behind.trail) is) behind.blanks in
+        byte_solid (is_space_or_tab byte) refl all
       where
-        byte_solid : (b : Bool) → is_blank byte ≡ b → list_all is_blank bytes ≡ true → not (is_blank byte) ≡ true
+        byte_solid : (b : Bool) → is_space_or_tab byte ≡ b → list_all is_space_or_tab bytes ≡ true → not (is_space_or_tab byte) ≡ true
         byte_solid true blank all = absurd (true_not_false (sym (rw (blank, all) refl) ∙ not_all))
         byte_solid false blank all = rw blank refl
     ends_at (other ∷ rest) is not_all behind = rw is at behind.ends
 
-    by_test : (b : Bool) → list_all is_blank (byte ∷ bytes) ≡ b → IsTrailed bytes → IsTrailed (byte ∷ bytes)
+    by_test : (b : Bool) → list_all is_space_or_tab (byte ∷ bytes) ≡ b → IsTrailed bytes → IsTrailed (byte ∷ bytes)
     by_test true is behind = record { trail = byte ∷ bytes; whole = rw is refl; blanks = is; ends = rw is refl }
     by_test false is behind = record {
       trail = behind.trail;
@@ -186,10 +187,10 @@ pub record IsTrimmed (text : List ℕ) : Type 0 where
 
 leads_kept : (text : List ℕ) → leads text ≡ true → leads (without_trail text) ≡ true
 leads_kept [] first = refl
-leads_kept (byte ∷ bytes) first = rw (and_left (is_blank byte) (list_all is_blank bytes) (not-true (is_blank byte) first)) first
+leads_kept (byte ∷ bytes) first = rw (and_left (is_space_or_tab byte) (list_all is_space_or_tab bytes) (not-true (is_space_or_tab byte) first)) first
 
-pub twice : (lead : List ℕ) → list_all (λ byte. not (not (is_blank byte))) lead ≡ true → AreBlanks lead
-twice = all_weaker (λ byte. not (not (is_blank byte))) is_blank (λ byte. back (is_blank byte))
+pub twice : (lead : List ℕ) → list_all (λ byte. not (not (is_space_or_tab byte))) lead ≡ true → AreBlanks lead
+twice = all_weaker (λ byte. not (not (is_space_or_tab byte))) is_space_or_tab (λ byte. back (is_space_or_tab byte))
   where
     back : (b : Bool) → not (not b) ≡ true → b ≡ true
     back true h = refl
@@ -197,20 +198,20 @@ twice = all_weaker (λ byte. not (not (is_blank byte))) is_blank (λ byte. back 
 
 pub trims : (text : List ℕ) → IsTrimmed text
 trims text =
-    let front = cut (λ byte. not (is_blank byte)) text in
+    let front = cut (λ byte. not (is_space_or_tab byte)) text in
     let back = trailed (without_lead text) in
     record {
-      lead = until (λ byte. not (is_blank byte)) text;
+      lead = until (λ byte. not (is_space_or_tab byte)) text;
       trail = back.trail;
-      whole = front.whole ∙ ap (λ rest. until (λ byte. not (is_blank byte)) text ++ rest) back.whole;
-      before = twice (until (λ byte. not (is_blank byte)) text) front.before;
+      whole = front.whole ∙ ap (λ rest. until (λ byte. not (is_space_or_tab byte)) text ++ rest) back.whole;
+      before = twice (until (λ byte. not (is_space_or_tab byte)) text) front.before;
       behind = back.blanks;
       first = leads_kept (without_lead text) front.behind;
       last = back.ends;
     }
 
 pub blanks_bare : (text : List ℕ) → AreBlanks text → list_all (λ byte. not (byte == 35)) text ≡ true
-blanks_bare = none_is is_blank 35 refl
+blanks_bare = none_is is_space_or_tab 35 refl
 
 -- what is said between blanks, before a comment
 pub record IsTight (core : List ℕ) : Type 0 where

@@ -1,3 +1,4 @@
+-- What is read as an instruction is spelled so.
 use Rattle.std.proofs.Common.{◌≡◌, ℕ, List, [], ◌∷◌, ◌++◌, refl, sym, ap, ◌∙◌}
 use Rattle.std.specs.Prelude.{ℤ, pos, Bool, true, false, nat_abs, codes, map}
 use Rattle.std.specs.declared.option.Option.{Option}
@@ -7,7 +8,7 @@ use Rattle.std.specs.declared.result.Result.TheVariants.{Ok, Err}
 use Rattle.std.proofs.lemmas.List.{append-nil}
 use Rattle.rv_line.specs.Emitted.{register_text}
 use Rattle.rv_line.specs.Fits.{FitsLine, IsRegister, IsImmediate, IsUpper}
-use Rattle.rv_line.specs.Instructions.{is_blank, IsLabel, Takes, TakesAddress, TakesImm, SpellsLine}
+use Rattle.rv_line.specs.Instructions.{is_space_or_tab, IsLabel, Takes, TakesAddress, TakesImm, SpellsLine}
 use Rattle.rv_line.specs.Mnemonics.{three_mnemonic, imm_mnemonic, branch_mnemonic}
 use Rattle.rv_line.specs.declared.line.Branch.{Branch}
 use Rattle.rv_line.specs.declared.line.Imm.{Imm}
@@ -22,8 +23,9 @@ use Rattle.rv_reader.specs.declared.form.Form.{Form}
 use Rattle.rv_reader.specs.declared.form.Form.TheVariants.{Three as ThreeForm, Imm as ImmForm, Load as LoadForm, Store as StoreForm, Branch as BranchForm, Lui as LuiForm, Auipc as AuipcForm, Jal as JalForm, Jalr as JalrForm, Fence as FenceForm, Ecall as EcallForm, Ebreak as EbreakForm}
 use Rattle.rv_reader.specs.Operands.{Address, register_of, immediate_of, address_of, label_of}
 use Rattle.rv_reader.proofs.CutLemmas.{cut, trails}
-use Rattle.rv_reader.proofs.FormLemmas.{form_found, fits_immediate, fits_upper, fits_accepts}
+use Rattle.rv_reader.proofs.FormLemmas.{form_found}
 use Rattle.rv_reader.proofs.OperandLemmas.{is_register_of, is_immediate_of, is_address_of, is_label_of}
+use Rattle.rv_reader.proofs.RangeLemmas.{fits_immediate, fits_upper, fits_accepts}
 use Rattle.rv_reader.proofs.SplitLemmas.{split_some, takes_from}
 
 -- an instruction that is spelled, whatever the labels, and fits
@@ -207,7 +209,7 @@ jump_back core (one ∷ two ∷ []) draft is found =
 
 -- a word that stands alone
 alone : (core word : List ℕ) → IsCore core word [] → core ≡ word
-alone core word is = (cut is_blank core).whole ∙ ap (λ t. first_word core ++ t) (none (behind_word core) is.operands_are) ∙ append-nil (first_word core) ∙ is.word_is
+alone core word is = (cut is_space_or_tab core).whole ∙ ap (λ t. first_word core ++ t) (none (behind_word core) is.operands_are) ∙ append-nil (first_word core) ∙ is.word_is
   where
     none : (behind : List ℕ) → operands_in behind ≡ [] → behind ≡ []
     none [] e = refl

@@ -1,3 +1,4 @@
+-- The first three lines, one after the other, and a number that is kept in 64 bits and is at most so much.
 use Rattle.std.proofs.Common.{◌≡◌, ℕ, ◌-◌, ◌<◌, ◌^◌, List, [], ◌∷◌, drop, refl, ap, ◌∙◌, arith}
 use Rattle.std.specs.Prelude.{Bool, true, false, cond, min, nat_le}
 use Rattle.std.specs.Option.{option_map}

@@ -1,3 +1,4 @@
+-- An instruction is read as it is spelled.
 use Rattle.std.proofs.Common.{◌≡◌, ℕ, ◌<◌, List, [], ◌∷◌, ◌++◌, length, refl, sym, ap, ◌∙◌, arith}
 use Rattle.std.specs.Prelude.{pos, Bool, true, false, not, ◌&&◌, ◌==◌, codes, Contains}
 use Rattle.std.specs.List.{list_all, AllByRecursion}
@@ -7,7 +8,7 @@ use Rattle.std.proofs.lemmas.Bool.{and_parts, and_right, leb-true, ne_eqb, not-t
 use Rattle.rv_line.specs.Fits.{FitsLine}
 use Rattle.std.proofs.lemmas.List.{length-append, append-nil}
 use Rattle.std.proofs.lemmas.List.Elements.{All-contains, All-from_recursion}
-use Rattle.rv_line.specs.Instructions.{is_blank, AreBlanks, AreOperands, IsLabel, Takes, SpellsLine}
+use Rattle.rv_line.specs.Instructions.{is_space_or_tab, AreBlanks, AreOperands, IsLabel, Takes, SpellsLine}
 use Rattle.rv_line.specs.declared.line.Branch.{Branch}
 use Rattle.rv_line.specs.declared.line.Line.{Line}
 use Rattle.rv_line.specs.declared.line.Line.TheVariants.{Three as ThreeLine, Imm as ImmLine, Load as LoadLine, Store as StoreLine, Branch as BranchLine, Lui, Auipc, Jal, Jalr, Fence, Ecall, Ebreak}
@@ -19,8 +20,9 @@ use Rattle.rv_reader.specs.Forms.{mnemonic_of, form_of}
 use Rattle.rv_reader.specs.declared.form.Form.{Form}
 use Rattle.rv_reader.specs.declared.form.Form.TheVariants.{Three as ThreeForm, Imm as ImmForm, Load as LoadForm, Store as StoreForm, Branch as BranchForm, Lui as LuiForm, Auipc as AuipcForm, Jal as JalForm, Jalr as JalrForm, Fence as FenceForm, Ecall as EcallForm, Ebreak as EbreakForm}
 use Rattle.rv_reader.proofs.CutLemmas.{begins, until-append, since-append, IsTight, trails, trails-append, solid_leads, solid_trails, all_of_both, all_weaker, not_at}
-use Rattle.rv_reader.proofs.FormLemmas.{is_lower, is_form, immediate_fits, upper_fits, accepts_fits}
+use Rattle.rv_reader.proofs.FormLemmas.{is_lower, is_form}
 use Rattle.rv_reader.proofs.OperandLemmas.{is_operand_byte, IsOperand, register_is, immediate_is, address_is, label_is, register_operand, signed_operand, address_operand, label_operand}
+use Rattle.rv_reader.proofs.RangeLemmas.{immediate_fits, upper_fits, accepts_fits}
 use Rattle.rv_reader.proofs.SplitLemmas.{operands_cut, solid_bytes}
 
 -- what an instruction has no byte of: `#` and `:`
@@ -56,9 +58,9 @@ operands_plain one [] rest separated are = rw separated (operand_plain one are.0
 operands_plain one (two ∷ more) rest separated are =
     rw separated.3 (
     behind_plain one (separated.0 ++ (44 ∷ (separated.1 ++ separated.2))) (operand_plain one are.0).plain (
-    behind_plain separated.0 (44 ∷ (separated.1 ++ separated.2)) (plain_byte is_blank refl refl separated.0 separated.4) (
+    behind_plain separated.0 (44 ∷ (separated.1 ++ separated.2)) (plain_byte is_space_or_tab refl refl separated.0 separated.4) (
     behind_plain (44 ∷ []) (separated.1 ++ separated.2) refl (
-    behind_plain separated.1 separated.2 (plain_byte is_blank refl refl separated.1 separated.5) (operands_plain two more separated.2 separated.6 are.1)
+    behind_plain separated.1 separated.2 (plain_byte is_space_or_tab refl refl separated.1 separated.5) (operands_plain two more separated.2 separated.6 are.1)
     ))))
 
 -- what is read of an instruction's core
@@ -84,7 +86,7 @@ plain_no_label core plain =
 pub plain_bare : (core : List ℕ) → list_all is_plain core ≡ true → list_all (λ byte. not (byte == 35)) core ≡ true
 plain_bare = all_weaker is_plain (λ byte. not (byte == 35)) (λ byte passes. (and_parts (not (byte == 35)) (not (byte == 58)) passes).0)
 
-lower_solid : (byte : ℕ) → is_lower byte ≡ true → is_blank byte ≡ false
+lower_solid : (byte : ℕ) → is_lower byte ≡ true → is_space_or_tab byte ≡ false
 lower_solid byte lower =
     let low = leb-true 97 byte lower in
     rw (ne_eqb byte 32 (λ e. omega arith), ne_eqb byte 9 (λ e. omega arith)) refl
@@ -96,22 +98,22 @@ letter_says byte bytes lower =
     let no_dot : (byte == 46) ≡ false = ne_eqb byte 46 (λ e. omega arith) in
     rw (no_dot, lower_solid byte lower, no_dot) refl
 
-first_letter : (mnemonic rest : List ℕ) → list_all is_lower mnemonic ≡ true → 0 < length mnemonic → (means_nothing (mnemonic ++ rest) ≡ false) × (begins (λ byte. not (is_blank byte)) (mnemonic ++ rest) ≡ true)
+first_letter : (mnemonic rest : List ℕ) → list_all is_lower mnemonic ≡ true → 0 < length mnemonic → (means_nothing (mnemonic ++ rest) ≡ false) × (begins (λ byte. not (is_space_or_tab byte)) (mnemonic ++ rest) ≡ true)
 first_letter [] rest letters some = absurd (omega arith)
 first_letter (byte ∷ mnemonic) rest letters some =
     let lower = (and_parts (is_lower byte) (list_all is_lower mnemonic) letters).0 in
     (letter_says byte (mnemonic ++ rest) lower, rw (lower_solid byte lower) refl)
 
-pub gap_begins : (gap rest : List ℕ) → AreBlanks gap → 0 < length gap → begins is_blank (gap ++ rest) ≡ true
+pub gap_begins : (gap rest : List ℕ) → AreBlanks gap → 0 < length gap → begins is_space_or_tab (gap ++ rest) ≡ true
 gap_begins [] rest blanks some = absurd (omega arith)
-gap_begins (byte ∷ gap) rest blanks some = (and_parts (is_blank byte) (list_all is_blank gap) blanks).0
+gap_begins (byte ∷ gap) rest blanks some = (and_parts (is_space_or_tab byte) (list_all is_space_or_tab gap) blanks).0
 
 gap_cut : (one : List ℕ) (more : List (List ℕ)) (gap rest : List ℕ) → AreBlanks gap → 0 < length gap → AreOperands rest (one ∷ more) → AllByRecursion IsOperand (one ∷ more) → operands_in (gap ++ rest) ≡ one ∷ more
 gap_cut one more [] rest blanks some separated are = absurd (omega arith)
 gap_cut one more (byte ∷ gap) rest blanks some separated are = operands_cut one more (byte ∷ gap) rest blanks separated are
 
-lower_word : (mnemonic : List ℕ) → list_all is_lower mnemonic ≡ true → list_all (λ byte. not (is_blank byte)) mnemonic ≡ true
-lower_word = all_weaker is_lower (λ byte. not (is_blank byte)) (λ byte lower. rw (lower_solid byte lower) refl)
+lower_word : (mnemonic : List ℕ) → list_all is_lower mnemonic ≡ true → list_all (λ byte. not (is_space_or_tab byte)) mnemonic ≡ true
+lower_word = all_weaker is_lower (λ byte. not (is_space_or_tab byte)) (λ byte lower. rw (lower_solid byte lower) refl)
 
 lower_plain : (mnemonic : List ℕ) → list_all is_lower mnemonic ≡ true → list_all is_plain mnemonic ≡ true
 lower_plain = plain_byte is_lower refl refl
@@ -124,18 +126,18 @@ taken core mnemonic one more letters some takes are =
     let blank = gap_begins gap rest takes.apart takes.some in
     let first = first_letter mnemonic (gap ++ rest) letters some in
     let ends = behind_plain mnemonic (gap ++ rest) (lower_plain mnemonic letters) (
-    behind_plain gap rest (plain_byte is_blank refl refl gap takes.apart) (operands_plain one more rest takes.separated are)
+    behind_plain gap rest (plain_byte is_space_or_tab refl refl gap takes.apart) (operands_plain one more rest takes.separated are)
     ) in
-    let core_first : begins (λ byte. not (is_blank byte)) core ≡ true = ap (begins (λ byte. not (is_blank byte))) takes.spelled ∙ first.1 in
+    let core_first : begins (λ byte. not (is_space_or_tab byte)) core ≡ true = ap (begins (λ byte. not (is_space_or_tab byte))) takes.spelled ∙ first.1 in
     let core_plain : list_all is_plain core ≡ true = ap (list_all is_plain) takes.spelled ∙ ends.plain in
     record {
       tight = record { bare = plain_bare core core_plain; first = core_first; last = ap trails takes.spelled ∙ ends.last };
       something = ap means_nothing takes.spelled ∙ first.0;
       no_label = plain_no_label core core_plain;
-      word = ap first_word takes.spelled ∙ until-append is_blank mnemonic (gap ++ rest) solid blank;
+      word = ap first_word takes.spelled ∙ until-append is_space_or_tab mnemonic (gap ++ rest) solid blank;
       operands_are =
           ap (λ t. operands_in (behind_word t)) takes.spelled
-          ∙ ap operands_in (since-append is_blank mnemonic (gap ++ rest) solid blank)
+          ∙ ap operands_in (since-append is_space_or_tab mnemonic (gap ++ rest) solid blank)
           ∙ gap_cut one more gap rest takes.apart takes.some takes.separated are;
     }
 
@@ -179,8 +181,8 @@ taken_alone word letters some =
       tight = record { bare = plain_bare word plain; first = solid_leads word solid; last = solid_trails word solid };
       something = ap means_nothing (sym (append-nil word)) ∙ (first_letter word [] letters some).0;
       no_label = plain_no_label word plain;
-      word = ap first_word (sym (append-nil word)) ∙ until-append is_blank word [] solid refl;
-      operands_are = ap (λ t. operands_in (behind_word t)) (sym (append-nil word)) ∙ ap operands_in (since-append is_blank word [] solid refl);
+      word = ap first_word (sym (append-nil word)) ∙ until-append is_space_or_tab word [] solid refl;
+      operands_are = ap (λ t. operands_in (behind_word t)) (sym (append-nil word)) ∙ ap operands_in (since-append is_space_or_tab word [] solid refl);
     }
 
 word_alone : (labels : List (List ℕ × ℕ)) (core : List ℕ) (form : Form) (line : Line) → core ≡ mnemonic_of form → draft_of form [] ≡ Ok (Whole line) → IsRead labels core line

@@ -1,3 +1,4 @@
+-- What is checked of a row is the same of numbers as they are kept, and of a scan that is allowed only with the next number.
 use Rattle.std.proofs.Common.{◌≡◌, ℕ, suc, ◌+◌, ◌-◌, ◌<◌, ◌^◌, List, [], ◌∷◌, length, get_or, refl, sym, ap, subst, ◌∙◌, arith}
 use Rattle.std.specs.Prelude.{Bool, true, false, ◌==◌, codes, cond, map, min, nat_le}
 use Rattle.std.specs.List.{last_or, list_all, slice_split}
@@ -8,6 +9,7 @@ use Rattle.std.specs.declared.result.Result.{Result}
 use Rattle.std.specs.declared.result.Result.TheVariants.{Err}
 use Rattle.std.proofs.lemmas.Bool.{and_left, and_parts, and_right, leb-true, eqb-true, eqb-false, ne_eqb}
 use Rattle.std.proofs.lemmas.Bool.Decides.{nat_tests}
+use Rattle.shapes_core.specs.Limits.{greatest_extent}
 use Rattle.shapes_core.specs.Shape.{are_small, is_shape, span}
 use Rattle.shapes_core.specs.declared.area.Area.{Area}
 use Rattle.shapes_core.specs.declared.area.AreaKind.{AreaKind}
@@ -78,33 +80,33 @@ no_last [] e = refl
 no_last (area ∷ areas) e = absurd (omega arith)
 
 -- extents as they are kept are a shape where they are one
-small_extents : (extents : List ℕ) → list_all (λ extent. nat_le extent 16777216) extents ≡ true → map capped extents ≡ extents
+small_extents : (extents : List ℕ) → list_all (λ extent. nat_le extent greatest_extent) extents ≡ true → map capped extents ≡ extents
 small_extents [] all = refl
 small_extents (extent ∷ extents) all =
-    let parts = and_parts (nat_le extent 16777216) (list_all (λ e. nat_le e 16777216) extents) all in
-    let le = leb-true extent 16777216 parts.0 in
+    let parts = and_parts (nat_le extent greatest_extent) (list_all (λ e. nat_le e greatest_extent) extents) all in
+    let le = leb-true extent greatest_extent parts.0 in
     let kept : min extent (2 ^ 64 - 1) ≡ extent = omega arith in
     rw (kept, small_extents extents parts.1) refl
 
-large_extents : (extents : List ℕ) → list_all (λ extent. nat_le extent 16777216) (map capped extents) ≡ list_all (λ extent. nat_le extent 16777216) extents
+large_extents : (extents : List ℕ) → list_all (λ extent. nat_le extent greatest_extent) (map capped extents) ≡ list_all (λ extent. nat_le extent greatest_extent) extents
 large_extents [] = refl
 large_extents (extent ∷ extents) =
-    let kept : nat_le (min extent (2 ^ 64 - 1)) 16777216 ≡ nat_le extent 16777216 = grind (arith, nat_tests) in
+    let kept : nat_le (min extent (2 ^ 64 - 1)) greatest_extent ≡ nat_le extent greatest_extent = grind (arith, nat_tests) in
     rw (kept, large_extents extents) refl
 
 pub shape_same : (extents : List ℕ) → is_shape extents ≡ true → map capped extents ≡ extents
 shape_same extents is =
     let small = and_parts (nat_le (length extents) 6) (are_small extents) is in
-    small_extents extents (and_parts (list_all (λ extent. nat_le extent 16777216) extents) (nat_le (span extents) 16777216) small.1).0
+    small_extents extents (and_parts (list_all (λ extent. nat_le extent greatest_extent) extents) (nat_le (span extents) greatest_extent) small.1).0
 
 pub shape_kept : (extents : List ℕ) → is_shape (map capped extents) ≡ is_shape extents
-shape_kept extents = by_test (list_all (λ extent. nat_le extent 16777216) extents) refl
+shape_kept extents = by_test (list_all (λ extent. nat_le extent greatest_extent) extents) refl
   where
-    by_test : (b : Bool) → list_all (λ extent. nat_le extent 16777216) extents ≡ b → is_shape (map capped extents) ≡ is_shape extents
+    by_test : (b : Bool) → list_all (λ extent. nat_le extent greatest_extent) extents ≡ b → is_shape (map capped extents) ≡ is_shape extents
     by_test true all = ap is_shape (small_extents extents all)
     by_test false none =
-        and_right (nat_le (length (map capped extents)) 6) (are_small (map capped extents)) (and_left (list_all (λ extent. nat_le extent 16777216) (map capped extents)) (nat_le (span (map capped extents)) 16777216) (large_extents extents ∙ none))
-        ∙ sym (and_right (nat_le (length extents) 6) (are_small extents) (and_left (list_all (λ extent. nat_le extent 16777216) extents) (nat_le (span extents) 16777216) none))
+        and_right (nat_le (length (map capped extents)) 6) (are_small (map capped extents)) (and_left (list_all (λ extent. nat_le extent greatest_extent) (map capped extents)) (nat_le (span (map capped extents)) greatest_extent) (large_extents extents ∙ none))
+        ∙ sym (and_right (nat_le (length extents) 6) (are_small extents) (and_left (list_all (λ extent. nat_le extent greatest_extent) extents) (nat_le (span extents) greatest_extent) none))
 
 -- what is checked of an area is the same of numbers as they are kept
 pub checked_same : (before : List Area) (spill start : ℕ) (kind : Option AreaKind) (offset : Option ℕ) (shape : Option (List ℕ)) → spill + start < 2 ^ 64 - 1

@@ -1,3 +1,4 @@
+-- Labels and names as a map keeps them.
 use Rattle.std.proofs.Common.{◌≡◌, ℕ, List, [], ◌∷◌, ◌++◌, refl, ap}
 use Rattle.std.specs.Prelude.{Bool, true, false, ◌||◌, cond, is_some, map, Vec}
 use Rattle.std.specs.Borrow.{Bor}

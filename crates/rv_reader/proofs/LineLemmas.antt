@@ -1,5 +1,6 @@
-use Rattle.std.proofs.Common.{◌≡◌, ℕ, suc, ◌<◌, ◌≤◌, List, [], ◌∷◌, ◌++◌, length, drop, refl, sym, ap, ◌∙◌, arith}
-use Rattle.std.specs.Prelude.{Bool, true, false, ◌==◌, cond}
+-- The lines of a text, by what stands before and behind its first line feed.
+use Rattle.std.proofs.Common.{◌≡◌, ℕ, suc, ◌<◌, List, [], ◌∷◌, ◌++◌, length, drop, refl, sym, ap, ◌∙◌, arith}
+use Rattle.std.specs.Prelude.{◌==◌, cond}
 use Rattle.std.specs.Str.Lines.{lines, lines_of_parts, strip_carriage_return}
 use Rattle.rv_reader.specs.Cuts.{until, since}
 use Rattle.rv_reader.proofs.CutLemmas.{cut}
@@ -43,18 +44,3 @@ first_of text (feed ∷ behind) is some =
 
 pub first_line : (text : List ℕ) → 0 < length (since (λ byte. byte == 10) text) → lines text ≡ strip_carriage_return (until (λ byte. byte == 10) text) ∷ lines (drop 1 (since (λ byte. byte == 10) text))
 first_line text some = first_of text (since (λ byte. byte == 10) text) refl some
-
-since_shorter : (text : List ℕ) → length (since (λ byte. byte == 10) text) ≤ length text
-since_shorter [] = omega arith
-since_shorter (byte ∷ bytes) = by_test (byte == 10) (since_shorter bytes)
-  where
-    by_test : (b : Bool) → length (since (λ other. other == 10) bytes) ≤ length bytes → length (cond b (byte ∷ bytes) (since (λ other. other == 10) bytes)) ≤ length (byte ∷ bytes)
-    by_test true e = omega arith
-    by_test false e = omega arith
-
-pub behind_shorter : (text : List ℕ) → 0 < length (since (λ byte. byte == 10) text) → length (drop 1 (since (λ byte. byte == 10) text)) < length text
-behind_shorter text some = by_list (since (λ byte. byte == 10) text) (since_shorter text) some
-  where
-    by_list : (rest : List ℕ) → length rest ≤ length text → 0 < length rest → length (drop 1 rest) < length text
-    by_list [] small h = absurd (omega arith)
-    by_list (byte ∷ bytes) small h = omega (arith, small)

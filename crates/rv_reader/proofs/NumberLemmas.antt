@@ -1,3 +1,4 @@
+-- Numbers as 64 bits hold them, digit by digit, and immediates by their sign and their magnitude.
 use Rattle.std.proofs.Common.{rules, refl, ◌≡◌, ℕ, zero, suc, ◌+◌, ◌-◌, ◌*◌, ◌^◌, ◌<◌, ◌≤◌, true, List, [], ◌∷◌, length, take, drop, get_or, ◌∙◌, ap, sym, arith}
 use Rattle.std.specs.Prelude.{IsTrue, min, Bool, false, ◌==◌, cond, ℤ, pos, negsuc, neg_ℤ}
 use Rattle.std.specs.List.{list_all}
@@ -12,7 +13,7 @@ use Rattle.std.proofs.lemmas.Int.Digits.{digits_value_more}
 use Rattle.std.proofs.lemmas.List.Recursion.{and_at}
 use Rattle.shapes_core.specs.Name.{is_digit}
 use Rattle.rv_line.specs.Numbers.{without_minus}
-use Rattle.rv_reader.specs.Marks.{capped, clamped, joined, signed}
+use Rattle.rv_reader.specs.Marks.{capped, clamped, farthest, joined, signed}
 use Rattle.rv_reader.specs.Operands.{address_from, immediate_of, is_number, number_of}
 use Rattle.rv_reader.proofs.CutLemmas.{true_not_false}
 
@@ -58,12 +59,12 @@ value_by_sign text is = by_sign (starts_with_minus text) refl is
 far_same : (minus : Bool) (n : ℕ) → clamped (signed minus n) ≡ clamped (signed minus (capped n))
 far_same false n = ap pos (same n)
   where
-    same : (k : ℕ) → min k (2 ^ 40) ≡ min (min k (2 ^ 64 - 1)) (2 ^ 40)
+    same : (k : ℕ) → min k farthest ≡ min (min k (2 ^ 64 - 1)) farthest
     same k = omega arith
 far_same true zero = refl
 far_same true (suc n) = ap negsuc (same n) ∙ ap (λ k. clamped (neg_ℤ (pos k))) (sym (before n))
   where
-    same : (k : ℕ) → min k (2 ^ 40) ≡ min (min k (2 ^ 64 - 2)) (2 ^ 40)
+    same : (k : ℕ) → min k farthest ≡ min (min k (2 ^ 64 - 2)) farthest
     same k = omega arith
 
     before : (k : ℕ) → min (suc k) (2 ^ 64 - 1) ≡ suc (min k (2 ^ 64 - 2))

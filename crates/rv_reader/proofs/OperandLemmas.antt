@@ -1,3 +1,4 @@
+-- Operands are read as they are spelled, and what is read as an operand is spelled so.
 use Rattle.std.proofs.Common.{◌≡◌, ℕ, suc, zero, inl, inr, ◌<◌, ◌^◌, List, [], ◌∷◌, ◌++◌, length, get_or, drop, refl, sym, ap, ◌∙◌, arith}
 use Rattle.std.specs.Prelude.{ℤ, ◌⊎◌, Bool, true, false, not, ◌&&◌, ◌||◌, ◌==◌, nat_le, nat_lt, cond, codes, slice_index}
 use Rattle.std.specs.Char.{digit_value}
@@ -13,11 +14,11 @@ use Rattle.std.proofs.lemmas.Str.{digit_value_digit}
 use Rattle.std.proofs.lemmas.Str.Parse.{digit_from_value, IsNumeralModel, numerals_by_value, tells_digits}
 use Rattle.shapes_core.specs.Name.{is_digit, is_letter}
 use Rattle.rv_line.specs.Emitted.{register_text}
-use Rattle.rv_line.specs.Instructions.{is_blank, is_label, is_label_byte, IsLabel}
+use Rattle.rv_line.specs.Instructions.{is_space_or_tab, is_label, is_label_byte, IsLabel}
 use Rattle.rv_line.specs.Numbers.{IsNumber, IsSignedNumber, without_minus}
 use Rattle.rv_reader.specs.Cuts.{same, until, since}
 use Rattle.rv_reader.specs.Operands.{is_number, number_of, immediate_of, is_shortest, is_register, register_of, Address, address, offset_part, base_part, end_part, address_from, address_of, label_of}
-use Rattle.rv_reader.proofs.CutLemmas.{same_true, begins, until-append, since-append, cut, all_weaker, all_of_both, none_is, true_not_false}
+use Rattle.rv_reader.proofs.CutLemmas.{same_true, begins, until-append, since-append, cut, all_weaker, all_of_both, none_is, not_at, true_not_false}
 
 -- what an option is, is one thing
 pub some_same : {A : Type 0} {x y : A} → ◌≡◌ {A = Option A} (Some x) (Some y) → x ≡ y
@@ -29,6 +30,11 @@ some_same {A} {x} {y} e = ap (λ o. from o) e
 
 pub none_not_some : {A : Type 0} {x : A} → ◌≡◌ {A = Option A} None (Some x) → ⊥
 none_not_some {A} {x} e = absurd (cc)
+
+-- what is found where a test passes
+pub some_from : {A : Type 0} (b : Bool) (x y : A) → cond b (Some x) None ≡ Some y → (b ≡ true) × (x ≡ y)
+some_from true x y found = (refl, some_same found)
+some_from false x y found = absurd (none_not_some found)
 
 pub all_digits : (text : List ℕ) → AllDigits 10 text → list_all is_digit text ≡ true
 all_digits [] all = refl
@@ -62,21 +68,17 @@ pub number_is : (text : List ℕ) (number : ℕ) → IsNumber text number → nu
 number_is text number is = rw (number_from text is.digits) (ap (λ n. Some n) is.value)
 
 pub is_number_of : (text : List ℕ) (number : ℕ) → number_of text ≡ Some number → IsNumber text number
-is_number_of text number is = by_test (is_number text) refl is
-  where
-    by_test : (b : Bool) → is_number text ≡ b → cond b (Some (digits_value 10 text)) None ≡ Some number → IsNumber text number
-    by_test true numeral found = record { digits = numeral_from text numeral; value = some_same found }
-    by_test false numeral found = absurd (none_not_some found)
+is_number_of text number is =
+    let found = some_from (is_number text) (digits_value 10 text) number is in
+    record { digits = numeral_from text found.0; value = found.1 }
 
 pub immediate_is : (text : List ℕ) (z : ℤ) → IsSignedNumber text z → immediate_of text ≡ Some z
 immediate_is text z is = rw (number_from (without_minus text) is.digits) (ap (λ n. Some n) is.value)
 
 pub is_immediate_of : (text : List ℕ) (z : ℤ) → immediate_of text ≡ Some z → IsSignedNumber text z
-is_immediate_of text z is = by_test (is_number (without_minus text)) refl is
-  where
-    by_test : (b : Bool) → is_number (without_minus text) ≡ b → cond b (Some (signed_digits_value 10 text)) None ≡ Some z → IsSignedNumber text z
-    by_test true numeral found = record { digits = numeral_from (without_minus text) numeral; value = some_same found }
-    by_test false numeral found = absurd (none_not_some found)
+is_immediate_of text z is =
+    let found = some_from (is_number (without_minus text)) (signed_digits_value 10 text) z is in
+    record { digits = numeral_from (without_minus text) found.0; value = found.1 }
 
 own : IsNumeralModel (AllDigits 10) (digits_value 10)
 own = numerals_by_value (AllDigits 10) tells_digits
@@ -98,20 +100,17 @@ shortest_again digits is small =
 
 pub is_register_of : (text : List ℕ) (register : ℕ) → register_of text ≡ Some register → IsRegisterText text register
 is_register_of [] register is = absurd (none_not_some is)
-is_register_of (byte ∷ digits) register is = by_test (is_register (byte ∷ digits)) refl is
-  where
-    by_test : (b : Bool) → is_register (byte ∷ digits) ≡ b → cond b (Some (digits_value 10 digits)) None ≡ Some register → IsRegisterText (byte ∷ digits) register
-    by_test false fails found = absurd (none_not_some found)
-    by_test true passes found =
-        let parts = and_parts (byte == 120 && is_shortest digits) (nat_lt (digits_value 10 digits) 32) passes in
-        let marks = and_parts (byte == 120) (is_shortest digits) parts.0 in
-        let small = ltb-true (digits_value 10 digits) 32 parts.1 in
-        let value : digits_value 10 digits ≡ register = some_same found in
-        let again : decimal (digits_value 10 digits) ≡ digits = shortest_again digits marks.1 (omega arith) in
-        record {
-          spelled = rw (eqb-true byte 120 marks.0) (ap (λ rest. 120 ∷ rest) (sym again ∙ ap decimal value));
-          small = omega (arith, small, value);
-        }
+is_register_of (byte ∷ digits) register is =
+    let found = some_from (is_register (byte ∷ digits)) (digits_value 10 digits) register is in
+    let parts = and_parts (byte == 120 && is_shortest digits) (nat_lt (digits_value 10 digits) 32) found.0 in
+    let marks = and_parts (byte == 120) (is_shortest digits) parts.0 in
+    let small = ltb-true (digits_value 10 digits) 32 parts.1 in
+    let value : digits_value 10 digits ≡ register = found.1 in
+    let again : decimal (digits_value 10 digits) ≡ digits = shortest_again digits marks.1 (omega arith) in
+    record {
+      spelled = rw (eqb-true byte 120 marks.0) (ap (λ rest. 120 ∷ rest) (sym again ∙ ap decimal value));
+      small = omega (arith, small, value);
+    }
 
 shortest_decimal : (register : ℕ) → register < 32 → (length (decimal register) == 1 || not (slice_index (decimal register) 0 == 48)) ≡ true
 shortest_decimal zero small = or_left (length (decimal 0) == 1) (not (slice_index (decimal 0) 0 == 48)) (rw (decimal_digit 0 (omega arith)) refl)
@@ -129,24 +128,15 @@ register_is register small =
 
 -- what an operand has no byte of: a blank, a comma, `#` and `:`
 abbrev pub is_operand_byte : ℕ → Bool
-is_operand_byte byte = not (is_blank byte) && not (byte == 44) && not (byte == 35) && not (byte == 58)
+is_operand_byte byte = not (is_space_or_tab byte) && not (byte == 44) && not (byte == 35) && not (byte == 58)
 
 pub record IsOperand (text : List ℕ) : Type 0 where
   pub solid : list_all is_operand_byte text ≡ true
   pub some : 0 < length text
 
-operand_byte : (byte : ℕ) → (byte ≡ 32 → ⊥) → (byte ≡ 9 → ⊥) → (byte ≡ 44 → ⊥) → (byte ≡ 35 → ⊥) → (byte ≡ 58 → ⊥) → is_operand_byte byte ≡ true
-operand_byte byte a b c d e = rw (ne_eqb byte 32 a, ne_eqb byte 9 b, ne_eqb byte 44 c, ne_eqb byte 35 d, ne_eqb byte 58 e) refl
-
--- a byte that passes a test is none that does not
-differs : (p : ℕ → Bool) (c : ℕ) → p c ≡ false → (byte : ℕ) → p byte ≡ true → byte ≡ c → ⊥
-differs p c fails byte passes e = wrong (rw e at passes)
-  where
-    wrong : p c ≡ true → ⊥
-    wrong h = absurd (cc)
-
 operand_from : (p : ℕ → Bool) → p 32 ≡ false → p 9 ≡ false → p 44 ≡ false → p 35 ≡ false → p 58 ≡ false → (text : List ℕ) → list_all p text ≡ true → list_all is_operand_byte text ≡ true
-operand_from p a b c d e = all_weaker p is_operand_byte (λ byte passes. operand_byte byte (differs p 32 a byte passes) (differs p 9 b byte passes) (differs p 44 c byte passes) (differs p 35 d byte passes) (differs p 58 e byte passes))
+operand_from p a b c d e = all_weaker p is_operand_byte (λ byte passes.
+    rw (not_at p 32 a byte passes, not_at p 9 b byte passes, not_at p 44 c byte passes, not_at p 35 d byte passes, not_at p 58 e byte passes) refl)
 
 -- digits, and what may stand with them in a number
 abbrev is_signed_byte : ℕ → Bool
@@ -216,11 +206,10 @@ pub label_is : (name : List ℕ) → IsLabel name → label_of name ≡ Some nam
 label_is name is = rw is refl
 
 pub is_label_of : (text name : List ℕ) → label_of text ≡ Some name → (text ≡ name) × IsLabel name
-is_label_of text name is = by_test (is_label text) refl is
-  where
-    by_test : (b : Bool) → is_label text ≡ b → cond b (Some text) None ≡ Some name → (text ≡ name) × IsLabel name
-    by_test true passes found = let same_name : text ≡ name = some_same found in (same_name, rw same_name at passes)
-    by_test false fails found = absurd (none_not_some found)
+is_label_of text name is =
+    let found = some_from (is_label text) text name is in
+    let same_name : text ≡ name = found.1 in
+    (same_name, rw same_name at found.0)
 
 -- an address is read as it is spelled
 pub address_is : (offset : List ℕ) (imm : ℤ) (base : ℕ) → IsSignedNumber offset imm → base < 32 → address_of (spelled_address offset base) ≡ Some (address imm base)

@@ -1,5 +1,6 @@
-use Rattle.std.proofs.Common.{◌≡◌, ℕ, ◌+◌, ◌<◌, ◌≤◌, List, [], ◌∷◌, ◌++◌, length, drop, refl, sym, ap, ◌∙◌, arith, append_assoc}
-use Rattle.std.specs.Prelude.{Bool, true, false, ◌==◌, cond, map}
+-- The parts of a row, one after the other, and the numbers that are read of them.
+use Rattle.std.proofs.Common.{◌≡◌, ℕ, ◌<◌, List, [], ◌∷◌, ◌++◌, length, drop, refl, sym, ap, ◌∙◌, arith, append_assoc}
+use Rattle.std.specs.Prelude.{◌==◌, map}
 use Rattle.std.specs.List.{slice_split}
 use Rattle.std.specs.Option.{option_map}
 use Rattle.std.specs.declared.option.Option.{Option}
@@ -30,21 +31,6 @@ part_next text some = by_list (since (λ byte. byte == 32) text) refl some
     by_list : (rest : List ℕ) → since (λ byte. byte == 32) text ≡ rest → 0 < length rest → slice_split (λ byte. byte == 32) text ≡ until (λ byte. byte == 32) text ∷ slice_split (λ byte. byte == 32) (drop 1 rest)
     by_list [] is h = absurd (omega arith)
     by_list (byte ∷ rest) is h = by_rest text (byte ∷ rest) is
-
-shorter : (text : List ℕ) → length (since (λ byte. byte == 32) text) ≤ length text
-shorter [] = omega arith
-shorter (byte ∷ bytes) = by_test (byte == 32) (shorter bytes)
-  where
-    by_test : (b : Bool) → length (since (λ other. other == 32) bytes) ≤ length bytes → length (cond b (byte ∷ bytes) (since (λ other. other == 32) bytes)) ≤ length (byte ∷ bytes)
-    by_test true e = omega arith
-    by_test false e = omega arith
-
-pub space_shorter : (text : List ℕ) → 0 < length (since (λ byte. byte == 32) text) → length (drop 1 (since (λ byte. byte == 32) text)) + 1 ≤ length text
-space_shorter text some = by_list (since (λ byte. byte == 32) text) (shorter text) some
-  where
-    by_list : (rest : List ℕ) → length rest ≤ length text → 0 < length rest → length (drop 1 rest) + 1 ≤ length text
-    by_list [] small h = absurd (omega arith)
-    by_list (byte ∷ bytes) small h = omega (arith, small)
 
 -- numbers that are read, and those that are left
 unfoldable pub numbers_with : List ℕ → Option (List ℕ) → Option (List ℕ)

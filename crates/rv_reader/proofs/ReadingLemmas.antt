@@ -1,3 +1,4 @@
+-- A line of the body is read as what it says, and says what is read of it.
 use Rattle.std.proofs.Common.{◌≡◌, ℕ, ◌<◌, inl, inr, List, [], ◌∷◌, ◌++◌, length, refl, sym, ap, subst, ◌∙◌, arith}
 use Rattle.std.specs.Prelude.{◌⊎◌, Bool, true, false, not, ◌||◌, ◌==◌, cond, codes}
 use Rattle.std.specs.List.{list_all}
@@ -6,7 +7,7 @@ use Rattle.std.specs.declared.result.Result.TheVariants.{Ok, Err}
 use Rattle.std.proofs.lemmas.Bool.{and_parts, and_from, and_left, and_right, or_cases, or_from, or_right, false_from_ne_true}
 use Rattle.std.proofs.lemmas.List.{append-nil}
 use Rattle.std.proofs.lemmas.List.Folds.{list_all-append}
-use Rattle.rv_line.specs.Instructions.{is_blank, is_label, IsLabel, IsGlobal, Says}
+use Rattle.rv_line.specs.Instructions.{is_space_or_tab, is_label, IsLabel, IsGlobal, Says}
 use Rattle.rv_line.specs.Spells.{SaysNothing}
 use Rattle.rv_line.specs.Spells.SaysNothing.{empty, section, global}
 use Rattle.rv_reader.specs.BodyLines.{Draft, Reading, instruction_of, is_global, means_nothing, defines_label, codes_draft, reading_of_core, reading_of}
@@ -30,9 +31,9 @@ global_core core is =
     let operand = label_operand name is.label in
     let solid = solid_bytes name operand.solid in
     let blank = gap_begins gap name is.apart is.some in
-    let ends = behind_plain (codes ".globl") (gap ++ name) refl (behind_plain gap name (plain_byte is_blank refl refl gap is.apart) (operand_plain name operand)) in
-    let word : first_word core ≡ codes ".globl" = ap first_word is.spelled ∙ until-append is_blank (codes ".globl") (gap ++ name) refl blank in
-    let behind : behind_word core ≡ gap ++ name = ap behind_word is.spelled ∙ since-append is_blank (codes ".globl") (gap ++ name) refl blank in
+    let ends = behind_plain (codes ".globl") (gap ++ name) refl (behind_plain gap name (plain_byte is_space_or_tab refl refl gap is.apart) (operand_plain name operand)) in
+    let word : first_word core ≡ codes ".globl" = ap first_word is.spelled ∙ until-append is_space_or_tab (codes ".globl") (gap ++ name) refl blank in
+    let behind : behind_word core ≡ gap ++ name = ap behind_word is.spelled ∙ since-append is_space_or_tab (codes ".globl") (gap ++ name) refl blank in
     let named : without_lead (behind_word core) ≡ name = ap without_lead behind ∙ lead_off gap name is.apart ∙ lead_none name (solid_leads name solid) in (
       record {
         bare = ap (list_all (λ byte. not (byte == 35))) is.spelled ∙ plain_bare (codes ".globl" ++ (gap ++ name)) ends.plain;
@@ -50,9 +51,9 @@ colon_differs one other has none =
 defined_core : (core name : List ℕ) → means_nothing core ≡ false → defines_label core ≡ true → until (λ byte. byte == 58) core ≡ name → reading_of_core core ≡ Ok (Defines name)
 defined_core core name something defines is = rw (something, defines) (ap (λ label. Ok (Defines label)) is)
 
-colon_says : (core : List ℕ) → list_all (λ byte. not (is_blank byte)) core ≡ true → list_all (λ byte. not (byte == 58)) core ≡ false → means_nothing core ≡ false
+colon_says : (core : List ℕ) → list_all (λ byte. not (is_space_or_tab byte)) core ≡ true → list_all (λ byte. not (byte == 58)) core ≡ false → means_nothing core ≡ false
 colon_says core solid has =
-    let word : first_word core ≡ core = ap first_word (sym (append-nil core)) ∙ until-append is_blank core [] solid refl in
+    let word : first_word core ≡ core = ap first_word (sym (append-nil core)) ∙ until-append is_space_or_tab core [] solid refl in
     let global : same (first_word core) (codes ".globl") ≡ false = ap (λ t. same t (codes ".globl")) word ∙ colon_differs core (codes ".globl") has refl in
     or_from (same core [] || same core (codes ".text")) (is_global core)
     (or_from (same core []) (same core (codes ".text")) (colon_differs core [] has refl) (colon_differs core (codes ".text") has refl))
@@ -62,7 +63,7 @@ label_core : (name : List ℕ) → IsLabel name → IsTight (name ++ codes ":") 
 label_core name is =
     let core = name ++ codes ":" in
     let operand = (label_operand name is).solid in
-    let solid : list_all (λ byte. not (is_blank byte)) core ≡ true = all_of_both (λ byte. not (is_blank byte)) name (codes ":") (solid_bytes name operand) refl in
+    let solid : list_all (λ byte. not (is_space_or_tab byte)) core ≡ true = all_of_both (λ byte. not (is_space_or_tab byte)) name (codes ":") (solid_bytes name operand) refl in
     let has : list_all (λ byte. not (byte == 58)) core ≡ false =
     list_all-append (λ byte. not (byte == 58)) name (codes ":") ∙ and_right (list_all (λ byte. not (byte == 58)) name) false refl in
     let plain = none_is is_operand_byte 58 refl name operand in
@@ -104,21 +105,21 @@ IsReadingOf text (Err cause) = Unit {0}
 global_back : (core : List ℕ) → is_global core ≡ true → IsGlobal core
 global_back core is =
     let parts = and_parts (same (first_word core) (codes ".globl")) (is_label (without_lead (behind_word core))) is in
-    let whole = cut is_blank core in
-    let gap = cut (λ byte. not (is_blank byte)) (behind_word core) in
+    let whole = cut is_space_or_tab core in
+    let gap = cut (λ byte. not (is_space_or_tab byte)) (behind_word core) in
     record {
-      gap = until (λ byte. not (is_blank byte)) (behind_word core);
+      gap = until (λ byte. not (is_space_or_tab byte)) (behind_word core);
       name = without_lead (behind_word core);
       spelled =
           whole.whole
           ∙ ap (λ t. t ++ behind_word core) (same_true (first_word core) (codes ".globl") parts.0)
           ∙ ap (λ t. codes ".globl" ++ t) gap.whole;
-      apart = twice (until (λ byte. not (is_blank byte)) (behind_word core)) gap.before;
+      apart = twice (until (λ byte. not (is_space_or_tab byte)) (behind_word core)) gap.before;
       some = some_gap (behind_word core) whole.behind parts.1;
       label = parts.1;
     }
   where
-    some_gap : (behind : List ℕ) → begins is_blank behind ≡ true → is_label (without_lead behind) ≡ true → 0 < length (until (λ byte. not (is_blank byte)) behind)
+    some_gap : (behind : List ℕ) → begins is_space_or_tab behind ≡ true → is_label (without_lead behind) ≡ true → 0 < length (until (λ byte. not (is_space_or_tab byte)) behind)
     some_gap [] blank label = absurd (true_not_false (sym label))
     some_gap (byte ∷ bytes) blank label = rw blank (omega arith)
 

@@ -1,3 +1,4 @@
+-- The row of an area is read as that area, and spells the area that is read of it.
 use Rattle.std.proofs.Common.{◌≡◌, ℕ, ◌+◌, List, [], ◌∷◌, ◌++◌, length, refl, sym, ap, ◌∙◌, append_assoc}
 use Rattle.std.specs.Prelude.{Bool, true, false, ◌&&◌, ◌||◌, ◌==◌, nat_le, cond, codes}
 use Rattle.std.specs.List.{list_all, slice_split, join_with_byte}
@@ -17,7 +18,7 @@ use Rattle.rv_reader.specs.AreaRows.{both_of, numbers_of, named, numbered, kind_
 use Rattle.rv_reader.specs.Cuts.{same}
 use Rattle.rv_reader.specs.Operands.{number_of}
 use Rattle.rv_reader.proofs.CutLemmas.{same_true, all_weaker}
-use Rattle.rv_reader.proofs.OperandLemmas.{all_digits, some_same, none_not_some, number_is, is_number_of}
+use Rattle.rv_reader.proofs.OperandLemmas.{all_digits, some_same, some_from, none_not_some, number_is, is_number_of}
 use Rattle.rv_reader.proofs.SplitLemmas.{all_apart}
 
 numbers_are : (texts : List (List ℕ)) (numbers : List ℕ) → AreNumbers texts numbers → numbers_of texts ≡ Some numbers
@@ -108,11 +109,7 @@ record IsKind (tag word : List ℕ) (kind : AreaKind) : Type 0 where
   name : IsNamed kind
 
 named_back : (form : List ℕ → AreaKind) (word : List ℕ) (kind : AreaKind) → named form word ≡ Some kind → IsName word × (form word ≡ kind)
-named_back form word kind h = by_test (is_name word) refl h
-  where
-    by_test : (b : Bool) → is_name word ≡ b → cond b (Some (form word)) None ≡ Some kind → IsName word × (form word ≡ kind)
-    by_test true is found = (is, some_same found)
-    by_test false is found = absurd (none_not_some found)
+named_back form word kind h = some_from (is_name word) (form word) kind h
 
 numbered_back : (word : List ℕ) (kind : AreaKind) → numbered (number_of word) ≡ Some kind → (number : ℕ) × IsNumber word number × (Scan number ≡ kind)
 numbered_back word kind h = by_number (number_of word) refl h
@@ -153,18 +150,14 @@ pub record IsRow (row : List ℕ) (spill start : ℕ) (area : Area) : Type 0 whe
 from_parts : (row : List ℕ) (spill start : ℕ) (area : Area) (mark tag word offset : List ℕ) (extents : List (List ℕ)) → row ≡ join_with_byte 32 (mark ∷ tag ∷ word ∷ offset ∷ extents) → area_of_parts spill start (mark ∷ tag ∷ word ∷ offset ∷ extents) ≡ Some area → IsRow row spill start area
 from_parts row spill start area mark tag word offset extents joined found = by_mark (same mark (codes "#")) refl found
   where
-    place_is : (n : ℕ) (same_place : Bool) (kind : AreaKind) (shape : List ℕ) → (n == spill + start) ≡ same_place → cond same_place (Some (record { kind = kind; shape = shape; start = start })) None ≡ Some area → (n ≡ spill + start) × (◌≡◌ {A = Area} (record { kind = kind; shape = shape; start = start }) area)
-    place_is n true kind shape is h = (eqb-true n (spill + start) is, some_same h)
-    place_is n false kind shape is h = absurd (none_not_some h)
-
     by_parts : (kind : Option AreaKind) (n : Option ℕ) (shape : Option (List ℕ)) → mark ≡ codes "#" → kind_of tag word ≡ kind → number_of offset ≡ n → numbers_of extents ≡ shape → area_from spill start kind n shape ≡ Some area → IsRow row spill start area
     by_parts None n shape m a b c h = absurd (none_not_some h)
     by_parts (Some kind) None shape m a b c h = absurd (none_not_some h)
     by_parts (Some kind) (Some n) None m a b c h = absurd (none_not_some h)
     by_parts (Some kind) (Some n) (Some shape) m a b c h =
-        let at = place_is n (n == spill + start) kind shape refl h in
+        let at = some_from (n == spill + start) (record { kind = kind; shape = shape; start = start }) area h in
         let is = kind_back tag word kind a in
-        let begins : IsNumber offset (spill + start) = is_number_of offset (spill + start) (b ∙ ap (λ k. Some k) at.0) in
+        let begins : IsNumber offset (spill + start) = is_number_of offset (spill + start) (b ∙ ap (λ k. Some k) (eqb-true n (spill + start) at.0)) in
         let whole : row ≡ (35 ∷ 32 ∷ (tag ++ 32 ∷ word)) ++ codes " " ++ offset ++ spaced extents =
         joined
         ∙ ap (λ t. t ++ 32 ∷ (tag ++ 32 ∷ (word ++ 32 ∷ join_with_byte 32 (offset ∷ extents)))) m

@@ -1,3 +1,4 @@
+-- Labels stand for what they are defined as, and targets in reach are those without a cause.
 use Rattle.std.proofs.Common.{◌≡◌, ℕ, suc, zero, ◌+◌, ◌*◌, ◌<◌, ◌≤◌, List, [], ◌∷◌, length, get_or, refl, sym, ap, ◌∙◌, arith}
 use Rattle.std.specs.Prelude.{Bool, true, false, ◌≢◌, nat_le, cond, Contains, AllPairs}
 use Rattle.std.specs.List.{AllByRecursion, AllZip, find}
@@ -5,16 +6,16 @@ use Rattle.std.specs.Option.{option_map, unwrap_or}
 use Rattle.std.specs.declared.option.Option.{Option}
 use Rattle.std.specs.declared.option.Option.TheVariants.{None, Some}
 use Rattle.std.proofs.lemmas.Bool.{and_parts, false_from_ne_true, leb-true, le-leb}
+use Rattle.std.proofs.lemmas.List.{length-map}
 use Rattle.std.proofs.lemmas.List.Elements.{All-contains, All-from_recursion}
 use Rattle.rv_line.specs.Fits.{FitsLine, FitLines, IsInReach}
 use Rattle.rv_line.specs.Instructions.{SpellsLine}
 use Rattle.rv_line.specs.declared.line.Line.{Line}
-use Rattle.rv_line.specs.declared.line.Line.TheVariants.{Branch as BranchLine, Jal}
 use Rattle.rv_reader.specs.Bodies.{names_of}
 use Rattle.rv_reader.specs.BodyLines.{Draft}
 use Rattle.rv_reader.specs.BodyLines.Draft.{Whole, ToBranch, ToJump}
 use Rattle.rv_reader.specs.Cuts.{same}
-use Rattle.rv_reader.specs.Refusals.{cause_unless, reach_cause, refused_or, settled, stands_for, target_cause, targets_refusal}
+use Rattle.rv_reader.specs.Refusals.{Refusal, cause_unless, reach_cause, refused_or, settled, stands_for, target_cause, targets_refusal}
 use Rattle.rv_reader.proofs.CutLemmas.{same_true, same_itself}
 use Rattle.rv_reader.proofs.DraftLemmas.{IsDraft}
 use Rattle.rv_reader.proofs.InstructionLemmas.{Aims}
@@ -26,10 +27,6 @@ name_at [] k label = refl
 name_at (first ∷ labels) zero label = refl
 name_at (first ∷ labels) (suc k) label = name_at labels k label
 
-length-names : (labels : List (List ℕ × ℕ)) → length (names_of labels) ≡ length labels
-length-names [] = refl
-length-names (label ∷ labels) = ap suc (length-names labels)
-
 stands_from : (labels : List (List ℕ × ℕ)) (name : List ℕ) (target k : ℕ) → AllPairs (λ one other. one ≢ other) (names_of labels) → k < length labels → get_or labels k (name, target) ≡ (name, target) → stands_for labels name ≡ Some target
 stands_from [] name target k differ below is = absurd (omega arith)
 stands_from (label ∷ labels) name target zero differ below is =
@@ -38,7 +35,7 @@ stands_from (label ∷ labels) name target zero differ below is =
     rw here (ap (λ l. Some l.1) is)
 stands_from (label ∷ labels) name target (suc k) differ below is =
     let later : get_or (names_of labels) k name ≡ name = name_at labels k (name, target) ∙ ap (λ l. l.0) is in
-    let long = length-names labels in
+    let long = length-map labels (λ l. l.0) in
     let other : label.0 ≢ name = rw later at (differ 0 (suc k) name (omega arith) (omega arith)) in
     let not_here : same name label.0 ≡ false = false_from_ne_true (same name label.0) (λ h. other (sym (same_true name label.0 h))) in
     rw not_here (stands_from labels name target k (λ i j d before within. differ (suc i) (suc j) d (omega arith) (omega arith)) (omega arith) is)
@@ -58,7 +55,11 @@ stands_back (label ∷ labels) name target found = by_test (stands_back labels n
     by_test others true is here = (0, omega arith, pair label (sym (same_true name label.0 is)) (some_same here))
     by_test others false is later = let at = others later in (suc at.0, omega (arith, at.1), at.2)
 
-unless_none : (holds : Bool) (cause : ℕ) → cause_unless holds cause ≡ None → holds ≡ true
+pub refused_back : (place : ℕ) (cause : Option ℕ) (other : Refusal) → refused_or place cause other ≡ None → (cause ≡ None) × (other ≡ None)
+refused_back place None other h = (refl, h)
+refused_back place (Some cause) other h = absurd (none_not_some (sym h))
+
+pub unless_none : (holds : Bool) (cause : ℕ) → cause_unless holds cause ≡ None → holds ≡ true
 unless_none true cause h = refl
 unless_none false cause h = absurd (none_not_some (sym h))
 
@@ -94,25 +95,31 @@ pub record IsSettled (labels : List (List ℕ × ℕ)) (count at : ℕ) (core : 
 within : (labels : List (List ℕ × ℕ)) (count : ℕ) (name : List ℕ) (target : ℕ) → AllByRecursion (λ label. label.1 ≤ count) labels → Contains labels (name, target) → target ≤ count
 within labels count name target are found = All-contains (λ label. label.1 ≤ count) labels (name, target) (All-from_recursion (λ label. label.1 ≤ count) labels are) found
 
+-- the target for which a label stands
+record IsAimed (low high : ℕ) (labels : List (List ℕ × ℕ)) (count at : ℕ) (name : List ℕ) (target : ℕ) : Type 0 where
+  defined : Contains labels (name, target)
+  reached : IsInReach low high count at target
+
+aimed_back : (low high : ℕ) (labels : List (List ℕ × ℕ)) (count at : ℕ) (name : List ℕ) → AllByRecursion (λ label. label.1 ≤ count) labels → reach_cause low high at (stands_for labels name) ≡ None → IsAimed low high labels count at name (unwrap_or (stands_for labels name) 0)
+aimed_back low high labels count at name are none = by_target (stands_for labels name) refl none
+  where
+    by_target : (target : Option ℕ) → stands_for labels name ≡ target → reach_cause low high at target ≡ None → IsAimed low high labels count at name (unwrap_or target 0)
+    by_target None stands h = absurd (none_not_some (sym h))
+    by_target (Some target) stands h =
+        let found = stands_back labels name target stands in
+        record { defined = found; reached = none_reach low high count at target (within labels count name target are found) h }
+
 pub settled_back : (labels : List (List ℕ × ℕ)) (count at : ℕ) (core : List ℕ) (draft : Draft) → AllByRecursion (λ label. label.1 ≤ count) labels → IsDraft core draft → target_cause labels at draft ≡ None → IsSettled labels count at core (settled labels draft)
 settled_back labels count at core (Whole line) are is none = record { spells = is.spells labels; fits = is.fits count at }
-settled_back labels count at core (ToBranch code left right label) are is none = by_target (stands_for labels label) refl none
-  where
-    by_target : (target : Option ℕ) → stands_for labels label ≡ target → reach_cause 4096 4094 at target ≡ None → IsSettled labels count at core (BranchLine code left right (unwrap_or target 0))
-    by_target None stands h = absurd (none_not_some (sym h))
-    by_target (Some target) stands h =
-        let found = stands_back labels label target stands in
-        record {
-          spells = record { name = label; defined = found; takes = is.takes };
-          fits = record { left = is.left_small; right = is.right_small; target = none_reach 4096 4094 count at target (within labels count label target are found) h };
-        }
-settled_back labels count at core (ToJump to label) are is none = by_target (stands_for labels label) refl none
-  where
-    by_target : (target : Option ℕ) → stands_for labels label ≡ target → reach_cause 1048576 1048574 at target ≡ None → IsSettled labels count at core (Jal to (unwrap_or target 0))
-    by_target None stands h = absurd (none_not_some (sym h))
-    by_target (Some target) stands h =
-        let found = stands_back labels label target stands in
-        record {
-          spells = record { name = label; defined = found; takes = is.takes };
-          fits = record { to = is.to_small; target = none_reach 1048576 1048574 count at target (within labels count label target are found) h };
-        }
+settled_back labels count at core (ToBranch code left right label) are is none =
+    let aimed = aimed_back 4096 4094 labels count at label are none in
+    record {
+      spells = record { name = label; defined = aimed.defined; takes = is.takes };
+      fits = record { left = is.left_small; right = is.right_small; target = aimed.reached };
+    }
+settled_back labels count at core (ToJump to label) are is none =
+    let aimed = aimed_back 1048576 1048574 labels count at label are none in
+    record {
+      spells = record { name = label; defined = aimed.defined; takes = is.takes };
+      fits = record { to = is.to_small; target = aimed.reached };
+    }

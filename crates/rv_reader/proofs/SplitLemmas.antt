@@ -1,3 +1,4 @@
+-- Operands that are separated are cut as they are, and what is cut is separated.
 use Rattle.std.proofs.Common.{◌≡◌, ℕ, ◌<◌, List, [], ◌∷◌, ◌++◌, length, refl, sym, ap, ◌∙◌, arith, append_assoc}
 use Rattle.std.specs.Prelude.{Bool, true, false, not, ◌&&◌, ◌==◌, All, map}
 use Rattle.std.specs.List.{list_all, slice_split, join_with_byte, AllByRecursion}
@@ -6,7 +7,7 @@ use Rattle.std.proofs.lemmas.List.{append-nil}
 use Rattle.std.proofs.lemmas.List.Elements.{All-nil, All-cons}
 use Rattle.std.proofs.lemmas.List.Splits.{slice_split_none, slice_split_at, join_with_byte-slice_split}
 use Rattle.rv_line.specs.Emitted.{register_text}
-use Rattle.rv_line.specs.Instructions.{is_blank, AreBlanks, AreOperands, Takes}
+use Rattle.rv_line.specs.Instructions.{is_space_or_tab, AreBlanks, AreOperands, Takes}
 use Rattle.rv_reader.specs.Cuts.{cut_operands, trimmed, first_word, behind_word, operands_in}
 use Rattle.rv_reader.proofs.CutLemmas.{begins, cut, trails, trails-append, no_trail, solid_leads, solid_trails, trimmed_is, trims, all_of_both, all_weaker, none_is, not_at, true_not_false}
 use Rattle.rv_reader.proofs.OperandLemmas.{is_operand_byte, IsOperand}
@@ -20,9 +21,9 @@ all_apart p c fails (b ∷ text) all =
 no_comma : (text : List ℕ) → list_all (λ byte. not (byte == 44)) text ≡ true → All (λ b. (b == 44) ≡ false) text
 no_comma text all = all_apart (λ byte. not (byte == 44)) 44 refl text all
 
-pub solid_bytes : (text : List ℕ) → list_all is_operand_byte text ≡ true → list_all (λ byte. not (is_blank byte)) text ≡ true
-solid_bytes = all_weaker is_operand_byte (λ byte. not (is_blank byte)) (λ byte solid.
-    (and_parts (not (is_blank byte)) (not (byte == 44)) (and_parts (not (is_blank byte) && not (byte == 44)) (not (byte == 35)) (and_parts (not (is_blank byte) && not (byte == 44) && not (byte == 35)) (not (byte == 58)) solid).0).0).0)
+pub solid_bytes : (text : List ℕ) → list_all is_operand_byte text ≡ true → list_all (λ byte. not (is_space_or_tab byte)) text ≡ true
+solid_bytes = all_weaker is_operand_byte (λ byte. not (is_space_or_tab byte)) (λ byte solid.
+    (and_parts (not (is_space_or_tab byte)) (not (byte == 44)) (and_parts (not (is_space_or_tab byte) && not (byte == 44)) (not (byte == 35)) (and_parts (not (is_space_or_tab byte) && not (byte == 44) && not (byte == 35)) (not (byte == 58)) solid).0).0).0)
 
 -- an operand between blanks is cut out
 operand_trimmed : (lead one trail : List ℕ) → AreBlanks lead → AreBlanks trail → IsOperand one → trimmed (lead ++ (one ++ trail)) ≡ one
@@ -31,7 +32,7 @@ operand_trimmed lead one trail before behind is =
     trimmed_is lead one trail before behind (solid_leads one solid) (solid_trails one solid)
 
 blanks_apart : (text : List ℕ) → AreBlanks text → list_all (λ byte. not (byte == 44)) text ≡ true
-blanks_apart = none_is is_blank 44 refl
+blanks_apart = none_is is_space_or_tab 44 refl
 
 operand_apart : (text : List ℕ) → list_all is_operand_byte text ≡ true → list_all (λ byte. not (byte == 44)) text ≡ true
 operand_apart = none_is is_operand_byte 44 refl
@@ -123,7 +124,7 @@ front_is : (one : List ℕ) (more : List (List ℕ)) (rest : List ℕ) → AreOp
 front_is one [] rest separated = ([], separated ∙ sym (append-nil one))
 front_is one (two ∷ more) rest separated = (separated.0 ++ (44 ∷ (separated.1 ++ separated.2)), separated.3)
 
-gap_some : (register : ℕ) (more : List (List ℕ)) (lead rest : List ℕ) → AreOperands rest (register_text register ∷ more) → begins is_blank (lead ++ rest) ≡ true → 0 < length lead
+gap_some : (register : ℕ) (more : List (List ℕ)) (lead rest : List ℕ) → AreOperands rest (register_text register ∷ more) → begins is_space_or_tab (lead ++ rest) ≡ true → 0 < length lead
 gap_some register more [] rest separated blank =
     let front = front_is (register_text register) more rest separated in
     absurd (true_not_false (sym (rw front.1 at blank)))
@@ -134,7 +135,7 @@ pub takes_from : (core : List ℕ) (register : ℕ) (more : List (List ℕ)) →
 takes_from core register more ends operands = by_behind (behind_word core) refl
   where
     whole : core ≡ first_word core ++ behind_word core
-    whole = (cut is_blank core).whole
+    whole = (cut is_space_or_tab core).whole
 
     at : (byte : ℕ) (bytes : List ℕ) → behind_word core ≡ byte ∷ bytes → cut_operands (byte ∷ bytes) ≡ register_text register ∷ more → AreBetween (byte ∷ bytes) (cut_operands (byte ∷ bytes)) → Takes core (first_word core) (register_text register ∷ more)
     at byte bytes is cut_is found =
@@ -144,13 +145,13 @@ takes_from core register more ends operands = by_behind (behind_word core) refl
         let grouped : byte ∷ bytes ≡ (found.lead ++ found.rest) ++ found.trail = found.whole ∙ sym (append_assoc found.lead found.rest found.trail) in
         let none : found.trail ≡ [] = no_trail (found.lead ++ found.rest) found.trail (ap trails (sym grouped) ∙ ends_behind) found.behind in
         let bare : byte ∷ bytes ≡ found.lead ++ found.rest = grouped ∙ ap (λ t. (found.lead ++ found.rest) ++ t) none ∙ append-nil (found.lead ++ found.rest) in
-        let blank : begins is_blank (byte ∷ bytes) ≡ true = ap (begins is_blank) (sym is) ∙ (cut is_blank core).behind in
+        let blank : begins is_space_or_tab (byte ∷ bytes) ≡ true = ap (begins is_space_or_tab) (sym is) ∙ (cut is_space_or_tab core).behind in
         record {
           gap = found.lead;
           rest = found.rest;
           spelled = split ∙ ap (λ t. first_word core ++ t) bare;
           apart = found.before;
-          some = gap_some register more found.lead found.rest separated (ap (begins is_blank) (sym bare) ∙ blank);
+          some = gap_some register more found.lead found.rest separated (ap (begins is_space_or_tab) (sym bare) ∙ blank);
           separated = separated;
         }
 

@@ -1,9 +1,10 @@
-use Rattle.std.proofs.Common.{◌≡◌, ℕ, suc, ◌+◌, ◌≤◌, List, [], ◌∷◌, ◌++◌, length, refl, sym, ap, ◌∙◌, arith, append_assoc}
+-- What is read of the lines of a body so far, with a line more.
+use Rattle.std.proofs.Common.{◌≡◌, ℕ, ◌+◌, ◌≤◌, List, [], ◌∷◌, ◌++◌, length, refl, sym, ap, ◌∙◌, arith, append_assoc}
 use Rattle.std.specs.Prelude.{Bool, true, false, ◌||◌, cond, is_some, map}
 use Rattle.std.specs.List.{find, list_any}
 use Rattle.std.specs.Option.{option_map}
 use Rattle.std.specs.declared.option.Option.TheVariants.{None, Some}
-use Rattle.std.proofs.lemmas.List.{append-nil, length-append, map-append}
+use Rattle.std.proofs.lemmas.List.{append-nil, length-append, length-map, map-append}
 use Rattle.std.specs.declared.option.Option.{Option}
 use Rattle.std.specs.declared.result.Result.{Result}
 use Rattle.std.specs.declared.result.Result.TheVariants.{Ok, Err}
@@ -16,7 +17,8 @@ use Rattle.rv_reader.specs.declared.error.AsmError.TheVariants as asm
 use Rattle.rv_reader.specs.Views.{drafted}
 use Rattle.rv_reader.specs.declared.draft.Draft.{Draft as ReadDraft}
 use Rattle.rv_reader.specs.Cuts.{same}
-use Rattle.rv_reader.specs.Refusals.{body_refusal, draft_in, drafts_of, label_in, labels_of, line_cause, number_behind_line, places_of, refused_or, stands_for}
+use Rattle.rv_reader.specs.Refusals.{Refusal, body_refusal, draft_in, drafts_of, label_in, labels_of, line_cause, number_behind_line, places_of, refused_or, stands_for}
+use Rattle.rv_reader.proofs.OperandLemmas.{none_not_some}
 
 -- a label stands for something where it is defined
 pub known_label : (labels : List (List ℕ × ℕ)) (name : List ℕ) → is_some (stands_for labels name) ≡ list_any (same name) (names_of labels)
@@ -88,30 +90,25 @@ so_far_end first all place number labels drafts places texts none so_far = recor
   places_are = so_far.places_are ∙ ap (λ t. places ++ places_of place t) none ∙ append-nil places;
 }
 
+-- the error of the first line that is refused is that of all
+pub first_refused : (error : AsmError) (place : ℕ) (cause : Option ℕ) (other all : Refusal) → all ≡ refused_or place cause other → IsLineRefusal error place cause → IsRefusal error all
+first_refused asm.Memory place cause other all is refused = tt
+first_refused (asm.Text at c) place None other all is refused = absurd (none_not_some refused)
+first_refused (asm.Text at c) place (Some found) other all is refused = is ∙ refused
+
 -- a line that is refused is the first
 pub so_far_refused : (first : ℕ) (all : List (List ℕ)) (place number : ℕ) (labels : List (List ℕ × ℕ)) (drafts : List Draft) (places : List ℕ) (line : List ℕ) (texts : List (List ℕ)) (error : AsmError) → IsSoFar first all place number labels drafts places (line ∷ texts) → IsLineRefusal error place (line_cause (names_of labels) (reading_of line)) → IsRefusal error (body_refusal first [] all)
-so_far_refused first all place number labels drafts places line texts error so_far refused = by_error error refused
-  where
-    by_cause : (cause : Option ℕ) (other : Option (ℕ × ℕ)) (at c : ℕ) → refused_or place cause None ≡ Some (at, c) → refused_or place cause other ≡ Some (at, c)
-    by_cause None other at c e = absurd (cc)
-    by_cause (Some found) other at c e = e
-
-    by_error : (e : AsmError) → IsLineRefusal e place (line_cause (names_of labels) (reading_of line)) → IsRefusal e (body_refusal first [] all)
-    by_error asm.Memory h = tt
-    by_error (asm.Text at c) h = so_far.refusal ∙ by_cause (line_cause (names_of labels) (reading_of line)) (body_refusal (place + 1) (names_of labels ++ label_in (reading_of line)) texts) at c h
+so_far_refused first all place number labels drafts places line texts error so_far refused =
+    first_refused error place (line_cause (names_of labels) (reading_of line)) (body_refusal (place + 1) (names_of labels ++ label_in (reading_of line)) texts) _ so_far.refusal refused
 
 pub so_far_same : {first : ℕ} {all : List (List ℕ)} {place : ℕ} (n m : ℕ) (labels ls : List (List ℕ × ℕ)) (drafts ds : List Draft) (places ps : List ℕ) {texts : List (List ℕ)} → m ≡ n → ls ≡ labels → ds ≡ drafts → ps ≡ places → IsSoFar first all place n labels drafts places texts → IsSoFar first all place m ls ds ps texts
 so_far_same n m labels ls drafts ds places ps a b c d so_far = rw (a, b, c, d) so_far
-
-length-drafted : (drafts : List ReadDraft) → length (map drafted drafts) ≡ length drafts
-length-drafted [] = refl
-length-drafted (draft ∷ drafts) = ap suc (length-drafted drafts)
 
 -- how many instructions there are with a line more
 pub number_new : (new old : List ReadDraft) (found : List Draft) → map drafted new ≡ map drafted old ++ found → length new ≡ length old + length found
 number_new new old found e =
     let long = ap length e in
-    let a = length-drafted new in
-    let b = length-drafted old in
+    let a = length-map new drafted in
+    let b = length-map old drafted in
     let c = length-append (map drafted old) found in
     omega (arith, a, b, c, long)

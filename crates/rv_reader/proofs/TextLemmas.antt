@@ -1,4 +1,5 @@
-use Rattle.std.proofs.Common.{◌≡◌, ℕ, suc, ◌+◌, ◌-◌, ◌≤◌, ◌^◌, List, [], ◌∷◌, ◌++◌, length, drop, take, refl, sym, ap, subst, ◌∙◌, arith}
+-- A text that spells parts is not refused, and a text that is not refused spells its parts.
+use Rattle.std.proofs.Common.{◌≡◌, ℕ, ◌+◌, ◌-◌, ◌≤◌, ◌^◌, List, [], ◌∷◌, ◌++◌, length, drop, take, refl, sym, ap, subst, ◌∙◌, arith}
 use Rattle.std.specs.Prelude.{Bool, true, false, not, MatchOption, nat_eq, nat_le, cond, codes, map}
 use Rattle.std.specs.List.{list_all, starts_with}
 use Rattle.std.specs.Option.{option_or, unwrap_or}
@@ -7,8 +8,9 @@ use Rattle.std.specs.declared.option.Option.{Option}
 use Rattle.std.specs.declared.option.Option.TheVariants.{None, Some}
 use Rattle.std.proofs.lemmas.Bool.{leb-true, le-leb, not-true}
 use Rattle.std.proofs.Math.Seq.{drop-append_seam, take-append_seam}
-use Rattle.std.proofs.lemmas.List.{take-append-drop}
-use Rattle.rv_line.specs.Fits.{names}
+use Rattle.std.proofs.lemmas.List.{length-map, take-append-drop}
+use Rattle.shapes_core.specs.Limits.{most_words}
+use Rattle.rv_line.specs.Fits.{area_names}
 use Rattle.rv_line.specs.Numbers.{IsNumber}
 use Rattle.rv_line.specs.Parts.{Parts}
 use Rattle.rv_line.specs.Rows.{is_row, SpellRows, SpellsRow, SpellsKind}
@@ -24,8 +26,8 @@ use Rattle.rv_reader.specs.Refusals.{at_most, body_in, body_place, body_refusal,
 use Rattle.rv_reader.proofs.AreaLemmas.{follows_order, order_follows, rows_back, rows_read}
 use Rattle.rv_reader.proofs.BodyLemmas.{AreApart, apart_from, body_back, body_read, differ_from, labels_apart, labels_named, labels_within}
 use Rattle.rv_reader.proofs.CutLemmas.{begins, cut, same_true, same_itself, since-append, until-append}
-use Rattle.rv_reader.proofs.OperandLemmas.{is_number_of, none_not_some, number_is, some_same}
-use Rattle.rv_reader.proofs.SettleLemmas.{aimed_none}
+use Rattle.rv_reader.proofs.OperandLemmas.{is_number_of, none_not_some, number_is, some_from}
+use Rattle.rv_reader.proofs.SettleLemmas.{aimed_none, refused_back, unless_none}
 
 -- a number behind a front
 record IsBehind (front : List ℕ) (most : ℕ) (text : List ℕ) (number : ℕ) : Type 0 where
@@ -39,11 +41,9 @@ at_most_is most number found is small = ap (at_most most) is ∙ rw (le-leb numb
 
 at_most_back : (most number : ℕ) (found : Option ℕ) → at_most most found ≡ Some number → (found ≡ Some number) × (number ≤ most)
 at_most_back most number None h = absurd (none_not_some h)
-at_most_back most number (Some n) h = by_test (nat_le n most) refl h
-  where
-    by_test : (b : Bool) → nat_le n most ≡ b → cond b (Some n) None ≡ Some number → (◌≡◌ {A = Option ℕ} (Some n) (Some number)) × (number ≤ most)
-    by_test true is found = (found, subst (λ k. k ≤ most) (some_same found) (leb-true n most is))
-    by_test false is found = absurd (none_not_some found)
+at_most_back most number (Some n) h =
+    let found = some_from (nat_le n most) n number h in
+    (ap (λ k. Some k) found.1, subst (λ k. k ≤ most) found.1 (leb-true n most found.0))
 
 behind_is : (front digits : List ℕ) (most number : ℕ) → IsNumber digits number → number ≤ most → number_behind front most (front ++ digits) ≡ Some number
 behind_is front digits most number is small =
@@ -81,16 +81,8 @@ pub record IsHeader (texts : List (List ℕ)) : Type 0 where
   pub steps_small : steps_value ≤ 2 ^ 63 - 1
   pub steps_read : steps_of texts ≡ Some steps_value
   pub spill_is : IsNumber spill spill_value
-  pub spill_small : spill_value ≤ 134217728
+  pub spill_small : spill_value ≤ most_words
   pub spill_read : spill_of texts ≡ Some spill_value
-
-refused_back : (place : ℕ) (cause : Option ℕ) (other : Refusal) → refused_or place cause other ≡ None → (cause ≡ None) × (other ≡ None)
-refused_back place None other h = (refl, h)
-refused_back place (Some cause) other h = absurd (none_not_some (sym h))
-
-unless_back : (holds : Bool) (cause : ℕ) → cause_unless holds cause ≡ None → holds ≡ true
-unless_back true cause h = refl
-unless_back false cause h = absurd (none_not_some (sym h))
 
 without_back : (cause : ℕ) (found : Option ℕ) → cause_without cause found ≡ None → (number : ℕ) × (found ≡ Some number)
 without_back cause None h = absurd (none_not_some (sym h))
@@ -110,11 +102,11 @@ header_back texts none =
     let a = refused_back 1 (cause_unless (same (line_at texts 0) (codes "# psi 1")) 1) (refused_or 2 (cause_without 2 (steps_of texts)) (refused_or 3 (cause_without 3 (spill_of texts)) None)) none in
     let b = refused_back 2 (cause_without 2 (steps_of texts)) (refused_or 3 (cause_without 3 (spill_of texts)) None) a.1 in
     let c = refused_back 3 (cause_without 3 (spill_of texts)) None b.1 in
-    let first = same_true (line_at texts 0) (codes "# psi 1") (unless_back (same (line_at texts 0) (codes "# psi 1")) 1 a.0) in
+    let first = same_true (line_at texts 0) (codes "# psi 1") (unless_none (same (line_at texts 0) (codes "# psi 1")) 1 a.0) in
     let steps_found = without_back 2 (steps_of texts) b.0 in
     let spill_found = without_back 3 (spill_of texts) c.0 in
     let second = is_behind (codes "# steps ") (2 ^ 63 - 1) (line_at texts 1) steps_found.0 steps_found.1 in
-    let third = is_behind (codes "# spill ") 134217728 (line_at texts 2) spill_found.0 spill_found.1 in
+    let third = is_behind (codes "# spill ") most_words (line_at texts 2) spill_found.0 spill_found.1 in
     record {
       steps = second.digits;
       steps_value = steps_found.0;
@@ -129,11 +121,11 @@ header_back texts none =
       spill_read = spill_found.1;
     }
 
-header_none : (steps spill : List ℕ) (steps_value spill_value : ℕ) (rest : List (List ℕ)) → IsNumber steps steps_value → steps_value ≤ 2 ^ 63 - 1 → IsNumber spill spill_value → spill_value ≤ 134217728
+header_none : (steps spill : List ℕ) (steps_value spill_value : ℕ) (rest : List (List ℕ)) → IsNumber steps steps_value → steps_value ≤ 2 ^ 63 - 1 → IsNumber spill spill_value → spill_value ≤ most_words
     → header_refusal (codes "# psi 1" ∷ (codes "# steps " ++ steps) ∷ (codes "# spill " ++ spill) ∷ rest) ≡ None
 header_none steps spill steps_value spill_value rest steps_is steps_small spill_is spill_small =
-    ap (λ found. refused_or 2 (cause_without 2 found) (refused_or 3 (cause_without 3 (number_behind (codes "# spill ") 134217728 (codes "# spill " ++ spill))) None)) (behind_is (codes "# steps ") steps (2 ^ 63 - 1) steps_value steps_is steps_small)
-    ∙ ap (λ found. refused_or 3 (cause_without 3 found) None) (behind_is (codes "# spill ") spill 134217728 spill_value spill_is spill_small)
+    ap (λ found. refused_or 2 (cause_without 2 found) (refused_or 3 (cause_without 3 (number_behind (codes "# spill ") most_words (codes "# spill " ++ spill))) None)) (behind_is (codes "# steps ") steps (2 ^ 63 - 1) steps_value steps_is steps_small)
+    ∙ ap (λ found. refused_or 3 (cause_without 3 found) None) (behind_is (codes "# spill ") spill most_words spill_value spill_is spill_small)
 
 -- a row begins as a row
 row_begins : (row : List ℕ) (word : ℕ) (area : Area) → SpellsRow row word area → is_row row ≡ true
@@ -176,13 +168,13 @@ spelled_refusal text parts spells =
     let rows_is : rows_in texts ≡ spells.rows = until-append (λ row. not (is_row row)) spells.rows spells.body are first in
     let body_is : body_in texts ≡ spells.body = since-append (λ row. not (is_row row)) spells.rows spells.body are first in
     let spill_is : spill_words texts ≡ parts.header.spill =
-    ap (λ found. unwrap_or found 0) (behind_is (codes "# spill ") spells.spill 134217728 parts.header.spill spells.spill_number spells.spill_small) in
+    ap (λ found. unwrap_or found 0) (behind_is (codes "# spill ") spells.spill most_words parts.header.spill spells.spill_number spells.spill_small) in
     let place_is : body_place texts ≡ length spells.rows + 4 = ap (λ rows. length rows + 4) rows_is in
     let areas = spells.areas in
     let rows_none : rows_refusal (spill_words texts) 4 [] (rows_in texts) ≡ None =
     ap (λ spill. rows_refusal spill 4 [] (rows_in texts)) spill_is
     ∙ ap (rows_refusal parts.header.spill 4 []) rows_is
-    ∙ rows_read spells.rows parts.header.spill 4 [] parts.areas spells.rows_spell areas.each (order_follows (kinds parts.areas) areas.in_order) (apart_from (names (kinds parts.areas)) areas.differ) areas.packed in
+    ∙ rows_read spells.rows parts.header.spill 4 [] parts.areas spells.rows_spell areas.each (order_follows (kinds parts.areas) areas.in_order) (apart_from (area_names (kinds parts.areas)) areas.differ) areas.packed in
     let named = labels_named spells.labels spells.body_spells in
     let read = body_read spells.labels (length parts.lines) named spells.body_spells spells.lines_fit in
     let body_none : body_refusal (body_place texts) [] (body_in texts) ≡ None =
@@ -201,10 +193,6 @@ spelled_refusal text parts spells =
 pub not_refused : (text : List ℕ) (parts : Parts) → Spells text parts → refusal text ≡ None
 not_refused text parts spells = ap refusal_of spells.split ∙ spelled_refusal text parts spells
 
-length-map : {X Y : Type 0} (f : X → Y) (xs : List X) → length (map f xs) ≡ length xs
-length-map f [] = refl
-length-map f (x ∷ xs) = ap suc (length-map f xs)
-
 -- a text that is not refused spells its parts
 pub spells_parts : (text : List ℕ) → refusal text ≡ None → Spells text (parts_of text)
 spells_parts text none = from_lines (lines text) refl none
@@ -218,7 +206,7 @@ spells_parts text none = from_lines (lines text) refl none
         let rows = rows_back (rows_in texts) (spill_words texts) 4 [] none_apart b.0 in
         let labels = labels_of 0 (body_in texts) in
         let lines_are = map (settled labels) (drafts_of (body_in texts)) in
-        let long = length-map (settled labels) (drafts_of (body_in texts)) in
+        let long = length-map (drafts_of (body_in texts)) (settled labels) in
         let count_is : 0 + length (drafts_of (body_in texts)) ≤ length lines_are = omega (arith, long) in
         let body = body_back labels (length lines_are) (body_in texts) (body_place texts) 0 [] (labels_within 0 (length lines_are) (body_in texts) count_is) c.0 c.1 in
         let whole = cut (λ row. not (is_row row)) (drop 3 texts) in

@@ -1,3 +1,4 @@
+-- What is kept beside the areas so far, with an area more.
 use Rattle.std.proofs.Common.{◌≡◌, ℕ, ◌+◌, ◌≤◌, List, [], ◌∷◌, ◌++◌, length, refl, sym, ap, ◌∙◌, arith}
 use Rattle.std.specs.Prelude.{true}
 use Rattle.std.specs.List.{last_or}
@@ -5,11 +6,12 @@ use Rattle.std.specs.declared.option.Option.{Option}
 use Rattle.std.specs.declared.option.Option.TheVariants.{None, Some}
 use Rattle.std.proofs.lemmas.Bool.{eqb-true}
 use Rattle.std.proofs.lemmas.List.{append-nil, length-append}
+use Rattle.shapes_core.specs.Limits.{greatest_extent}
 use Rattle.shapes_core.specs.Shape.{total}
 use Rattle.shapes_core.specs.declared.area.Area.{Area}
 use Rattle.shapes_core.specs.declared.area.AreaKind.{AreaKind}
 use Rattle.shapes_core.specs.declared.area.AreaKind.TheVariants.{In, Out, Scan}
-use Rattle.rv_line.specs.Fits.{names}
+use Rattle.rv_line.specs.Fits.{area_names}
 use Rattle.rv_reader.specs.AreaRows.{kinds, may_follow, words_of}
 use Rattle.rv_reader.specs.Kinds.{next_number}
 use Rattle.rv_reader.specs.Tracked.{IsTracked, name_in, next_behind}
@@ -34,14 +36,14 @@ behind_small next (Scan number) = omega arith
 
 -- with an area more
 pub tracked_step : (areas new_areas : List Area) (known new_known : List (List ℕ)) (words new_words next new_next : ℕ) (area : Area) → IsTracked areas known words next → may_follow (last_or None (kinds areas)) area.kind ≡ true → new_areas ≡ areas ++ area ∷ []
-    → new_known ≡ known ++ name_in area.kind → new_words ≡ words + total area.shape → total area.shape ≤ 16777216 → new_next ≡ next_behind next area.kind → IsTracked new_areas new_known new_words new_next
+    → new_known ≡ known ++ name_in area.kind → new_words ≡ words + total area.shape → total area.shape ≤ greatest_extent → new_next ≡ next_behind next area.kind → IsTracked new_areas new_known new_words new_next
 tracked_step areas new_areas known new_known words new_words next new_next area tracked follows a k w small n =
     let long = ap length a ∙ length-append areas (area ∷ []) in
     let behind = behind_small next area.kind in
     let next_small = tracked.next_small in
     let words_small = tracked.words_small in
     record {
-      names_are = k ∙ ap (λ l. l ++ name_in area.kind) tracked.names_are ∙ sym (names_push areas area) ∙ ap (λ l. names (kinds l)) (sym a);
+      names_are = k ∙ ap (λ l. l ++ name_in area.kind) tracked.names_are ∙ sym (names_push areas area) ∙ ap (λ l. area_names (kinds l)) (sym a);
       words_are = w ∙ ap (λ v. v + total area.shape) tracked.words_are ∙ sym (words_push areas area) ∙ ap words_of (sym a);
       next_is = n ∙ follow_next (last_or None (kinds areas)) area.kind next tracked.next_is follows ∙ ap next_number (sym (last_push None areas area)) ∙ ap (λ l. next_number (last_or None (kinds l))) (sym a);
       next_small = omega (arith, long, behind, next_small, n);

@@ -1,3 +1,4 @@
+-- The refusal and the parts of a text, by those of its header, its rows, its body and its targets.
 use Rattle.std.proofs.Common.{◌≡◌, ℕ, ◌+◌, List, [], ◌∷◌, length, drop, refl, sym, ap, subst, ◌∙◌}
 use Rattle.std.specs.Prelude.{map, IfErr, IfOk, MatchResult}
 use Rattle.std.specs.Option.{option_or, unwrap_or}

@@ -11,7 +11,7 @@ use Rattle.shapes_core.specs.Shape.{is_shape, total}
 use Rattle.shapes_core.specs.declared.area.Area.{Area}
 use Rattle.shapes_core.specs.declared.area.AreaKind.{AreaKind}
 use Rattle.shapes_core.specs.declared.area.AreaKind.TheVariants.{In, Out, Scan}
-use Rattle.rv_line.specs.Fits.{names}
+use Rattle.rv_line.specs.Fits.{area_names}
 use Rattle.rv_reader.specs.Cuts.{same}
 use Rattle.rv_reader.specs.Operands.{number_of}
 
@@ -89,7 +89,7 @@ checked before None = Err 4
 checked before (Some area) =
     if not (may_follow (last_or None (kinds before)) area.kind) then Err 4
     else (if not (is_shape area.shape) then Err 12
-    else (if is_repeated (names (kinds before)) area.kind then Err 5
+    else (if is_repeated (area_names (kinds before)) area.kind then Err 5
     else Ok area))
 
 -- what a row is, behind these areas

@@ -2,7 +2,7 @@
 use Rattle.std.specs.Prelude.{ℕ, Bool, not, ◌==◌, nat_eq, cond, List, [], ◌∷◌, map}
 use Rattle.std.specs.Cmp.Lexicographic.{pointwise}
 use Rattle.std.specs.List.{list_all, slice_split}
-use Rattle.rv_line.specs.Instructions.{is_blank}
+use Rattle.rv_line.specs.Instructions.{is_space_or_tab}
 
 -- the same bytes
 abbrev pub same : List ℕ → List ℕ → Bool
@@ -20,11 +20,11 @@ since test (item ∷ items) = cond (test item) (item ∷ items) (since test item
 
 -- without the blanks in front, and at the end
 abbrev pub without_lead : List ℕ → List ℕ
-without_lead text = since (λ byte. not (is_blank byte)) text
+without_lead text = since (λ byte. not (is_space_or_tab byte)) text
 
 abbrev pub without_trail : List ℕ → List ℕ
 without_trail [] = []
-without_trail (byte ∷ bytes) = cond (list_all is_blank (byte ∷ bytes)) [] (byte ∷ without_trail bytes)
+without_trail (byte ∷ bytes) = cond (list_all is_space_or_tab (byte ∷ bytes)) [] (byte ∷ without_trail bytes)
 
 abbrev pub trimmed : List ℕ → List ℕ
 trimmed text = without_trail (without_lead text)
@@ -35,10 +35,10 @@ core_of text = trimmed (until (λ byte. byte == 35) text)
 
 -- what stands before the first blank, and from there on
 abbrev pub first_word : List ℕ → List ℕ
-first_word core = until is_blank core
+first_word core = until is_space_or_tab core
 
 abbrev pub behind_word : List ℕ → List ℕ
-behind_word core = since is_blank core
+behind_word core = since is_space_or_tab core
 
 -- operands, separated by a comma with any blanks around it
 abbrev pub cut_operands : List ℕ → List (List ℕ)

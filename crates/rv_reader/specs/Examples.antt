@@ -1,4 +1,4 @@
--- Texts that are refused, and texts that are not.
+-- Texts that are refused, and texts that are not. This project's own.
 use Prim.Native.String.{String}
 use Rattle.std.specs.Prelude.{ℕ, pos, negsuc, List, [], ◌∷◌, ◌++◌, ◌-◌, codes, replicate}
 use Rattle.std.specs.List.{concat}

@@ -6,6 +6,7 @@ pub mod Errors
 pub mod Examples
 pub mod Forms
 pub mod Kinds
+pub mod Limits
 pub mod Lines
 pub mod Marks
 pub mod Operands

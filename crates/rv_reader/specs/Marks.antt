@@ -2,14 +2,14 @@
 use Rattle.std.specs.Prelude.{ℕ, ◌-◌, ◌^◌, min, ℤ, pos, negsuc, neg_ℤ, Bool, not, ◌==◌, if◌then◌else◌}
 use Rattle.std.specs.declared.option.Option.{Option}
 use Rattle.std.specs.declared.option.Option.TheVariants.{None, Some}
-use Rattle.rv_line.specs.Instructions.{is_blank}
+use Rattle.rv_line.specs.Instructions.{is_space_or_tab}
 use Rattle.rv_reader.specs.declared.cuts.Mark.{Mark}
 use Rattle.rv_reader.specs.declared.cuts.Mark.TheVariants as mark
 
 -- whether a byte is such a mark
 abbrev pub stops : Mark → ℕ → Bool
-stops mark.Blank byte = is_blank byte
-stops mark.Solid byte = not (is_blank byte)
+stops mark.Blank byte = is_space_or_tab byte
+stops mark.Solid byte = not (is_space_or_tab byte)
 stops mark.LineFeed byte = byte == 10
 stops mark.Space byte = byte == 32
 stops mark.Hash byte = byte == 35
@@ -22,10 +22,14 @@ stops mark.Colon byte = byte == 58
 abbrev pub capped : ℕ → ℕ
 capped number = min number (2 ^ 64 - 1)
 
+-- how far immediates are kept, which is outside of all their ranges
+abbrev pub farthest : ℕ
+farthest = 2 ^ 40
+
 -- the number, or one that is outside of all ranges of immediates where it is
 abbrev pub clamped : ℤ → ℤ
-clamped (pos number) = pos (min number (2 ^ 40))
-clamped (negsuc number) = negsuc (min number (2 ^ 40))
+clamped (pos number) = pos (min number farthest)
+clamped (negsuc number) = negsuc (min number farthest)
 
 -- a magnitude, with or without `-` in front
 abbrev pub signed : Bool → ℕ → ℤ

@@ -8,6 +8,7 @@ use Rattle.std.specs.declared.option.Option.{Option}
 use Rattle.std.specs.declared.option.Option.TheVariants.{None, Some}
 use Rattle.std.specs.declared.result.Result.{Result}
 use Rattle.std.specs.declared.result.Result.TheVariants.{Ok, Err}
+use Rattle.shapes_core.specs.Limits.{most_words}
 use Rattle.shapes_core.specs.declared.area.Area.{Area}
 use Rattle.rv_line.specs.Parts.{Parts}
 use Rattle.rv_line.specs.Rows.{is_row}
@@ -46,7 +47,7 @@ abbrev pub steps_of : List (List ℕ) → Option ℕ
 steps_of texts = number_behind (codes "# steps ") (2 ^ 63 - 1) (line_at texts 1)
 
 abbrev pub spill_of : List (List ℕ) → Option ℕ
-spill_of texts = number_behind (codes "# spill ") 134217728 (line_at texts 2)
+spill_of texts = number_behind (codes "# spill ") most_words (line_at texts 2)
 
 abbrev pub cause_unless : Bool → ℕ → Option ℕ
 cause_unless holds cause = if holds then None else Some cause

@@ -2,20 +2,21 @@
 use Rattle.std.specs.Prelude.{◌≡◌, ◌+◌, ◌≤◌, ◌*◌, ℕ, List, [], ◌∷◌, length}
 use Rattle.std.specs.List.{last_or}
 use Rattle.std.specs.declared.option.Option.TheVariants.{None}
+use Rattle.shapes_core.specs.Limits.{greatest_extent}
 use Rattle.shapes_core.specs.declared.area.Area.{Area}
 use Rattle.shapes_core.specs.declared.area.AreaKind.{AreaKind}
 use Rattle.shapes_core.specs.declared.area.AreaKind.TheVariants.{In, Out, Scan}
-use Rattle.rv_line.specs.Fits.{names}
+use Rattle.rv_line.specs.Fits.{area_names}
 use Rattle.rv_reader.specs.AreaRows.{kinds, words_of}
 use Rattle.rv_reader.specs.Kinds.{next_number}
 
 -- their names, their words, and the number that the next scan has
 pub record IsTracked (areas : List Area) (known : List (List ℕ)) (words next : ℕ) : Type 0 where
-  pub names_are : known ≡ names (kinds areas)
+  pub names_are : known ≡ area_names (kinds areas)
   pub words_are : words ≡ words_of areas
   pub next_is : next ≡ next_number (last_or None (kinds areas))
   pub next_small : next ≤ length areas
-  pub words_small : words ≤ 16777216 * length areas
+  pub words_small : words ≤ greatest_extent * length areas
 
 -- the name of an input or an output
 abbrev pub name_in : AreaKind → List (List ℕ)

@@ -1,5 +1,6 @@
 // The call that reads a whole text.
 ghost use Rattle.std.specs.Prelude.{◌≡◌, ◌≤◌, ℕ, Err, IfErr, IfOk, MatchResult, None, Some, length};
+ghost use Rattle.rv_reader.specs.Limits.{longest_assembly};
 ghost use Rattle.rv_line.specs.Parts.{Parts};
 ghost use Rattle.rv_line.specs.Spells.{Spells};
 ghost use Rattle.rv_reader.specs.Errors.{IsRefusal};
@@ -28,7 +29,7 @@ struct Found {
 
 #[tactic(auto, using(crate::proofs::WholeLemmas::same_count))]
 fn find_parts(alloc: Global, text: &[u8]) -> Result<Found, AsmError>
-    requires { length text.now ≤ 33554432 }
+    requires { length text.now ≤ longest_assembly }
     ensures fine { IfOk result (λ found. refusal text.now ≡ None) }
     ensures parts { IfOk result (λ found. parts_of text.now ≡ record {
       header = found.header;
@@ -54,7 +55,7 @@ fn find_parts(alloc: Global, text: &[u8]) -> Result<Found, AsmError>
 }
 
 fn read_once(alloc: Global, text: &[u8]) -> Result<Assembly, AsmError>
-    requires { length text.now ≤ 33554432 }
+    requires { length text.now ≤ longest_assembly }
     ensures read { IfOk result (λ assembly. Spells text.now assembly) }
     ensures refused { IfErr result (λ e. IsRefusal e (refusal text.now)) }
 {
@@ -67,7 +68,7 @@ fn read_once(alloc: Global, text: &[u8]) -> Result<Assembly, AsmError>
 /// which it is refused, or that memory could not be had. Lines are tried in order for the causes 1 to 9 and 12, and where
 /// none has one of these, the branches and jumps for the causes 10 and 11.
 pub fn read_asm(alloc: Global, text: &[u8]) -> Result<Assembly, AsmError>
-    requires { length text.now ≤ 33554432 }
+    requires { length text.now ≤ longest_assembly }
     ensures read { IfOk result (λ assembly. Spells text.now assembly) }
     ensures refused { (line cause : ℕ) → result ≡ Err (asm.Text line cause) → refusal text.now ≡ Some (line, cause) }
     ensures spelled { (parts : Parts) → Spells text.now parts

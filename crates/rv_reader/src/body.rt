@@ -50,10 +50,7 @@ impl<'a> Body<'a> {
             IsLineRefusal e place (line_cause (names_of self.old.labels) (Ok (DefinesLabel label.now)))) }
     {
         if self.labels.find(label).is_some() {
-            return Err(AsmError::Text {
-                line: place,
-                cause: REPEATED,
-            });
+            return Err(AsmError::at(place, REPEATED));
         }
         self.labels.insert(label, self.drafts.len() as u32)?;
         Ok(())
@@ -88,7 +85,7 @@ impl<'a> Body<'a> {
             Ok(Reading::Nothing) => Ok(()),
             Ok(Reading::Defines(label)) => self.define(place, label),
             Ok(Reading::Codes(draft)) => self.push(place, draft),
-            Err(cause) => Err(AsmError::Text { line: place, cause }),
+            Err(cause) => Err(AsmError::at(place, cause)),
         }
     }
 }

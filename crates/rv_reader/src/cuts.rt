@@ -1,7 +1,7 @@
 // How the bytes of a line are cut into parts.
 ghost use Rattle.std.specs.Prelude.{◌≡◌, ◌≤◌, drop, length};
 ghost use Rattle.std.specs.List.{position_or_len};
-ghost use Rattle.rv_line.specs.Instructions.{is_blank};
+ghost use Rattle.rv_line.specs.Instructions.{is_space_or_tab};
 ghost use Rattle.rv_reader.specs.Cuts.{core_of, first_word, behind_word, since, trimmed, until, without_lead, without_trail};
 ghost use Rattle.rv_reader.specs.Marks.{stops};
 
@@ -19,8 +19,8 @@ pub(crate) enum Mark {
     Colon,
 }
 
-fn is_blank(byte: u8) -> bool
-    ensures { result ≡ is_blank byte }
+fn is_space_or_tab(byte: u8) -> bool
+    ensures { result ≡ is_space_or_tab byte }
 {
     byte == b' ' || byte == b'\t'
 }
@@ -29,8 +29,8 @@ fn stops(mark: Mark, byte: u8) -> bool
     ensures { result ≡ stops mark byte }
 {
     match mark {
-        Mark::Blank => is_blank(byte),
-        Mark::Solid => !is_blank(byte),
+        Mark::Blank => is_space_or_tab(byte),
+        Mark::Solid => !is_space_or_tab(byte),
         Mark::LineFeed => byte == b'\n',
         Mark::Space => byte == b' ',
         Mark::Hash => byte == b'#',
@@ -75,7 +75,7 @@ fn without_trail<'a>(text: &'a [u8]) -> &'a [u8]
 {
     let mut len = 0;
     for (place, byte) in text.iter().enumerate() {
-        if !is_blank(*byte) {
+        if !is_space_or_tab(*byte) {
             len = place + 1;
         }
     }

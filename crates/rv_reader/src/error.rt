@@ -31,6 +31,18 @@ pub enum AsmError {
     Memory,
 }
 
+impl AsmError {
+    ghost use Rattle.std.specs.Prelude.{◌≡◌};
+    ghost use Rattle.rv_reader.specs.declared.error.AsmError.TheVariants as asm;
+
+    /// A text that is refused on this line with this cause.
+    pub(crate) fn at(line: u32, cause: u8) -> AsmError
+        ensures { result ≡ asm.Text line cause }
+    {
+        AsmError::Text { line, cause }
+    }
+}
+
 impl From<NoMemory> for AsmError {
     ghost use Rattle.std.specs.Prelude.{◌≡◌};
     ghost use Rattle.rv_reader.specs.declared.error.AsmError.TheVariants as asm;

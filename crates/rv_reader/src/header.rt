@@ -9,6 +9,7 @@ use crate::error::{AsmError, FORMAT, SPILL, STEPS};
 use crate::lines::split_line;
 use crate::operands::number;
 use rv_line::Header;
+use shapes_core::MOST_WORDS;
 
 /// The number behind a front of a line, if it is one and is at most `most`.
 #[tactic(auto, using(crate::proofs::HeaderLemmas::capped_most))]
@@ -54,24 +55,15 @@ pub(crate) fn read_header<'a>(text: &'a [u8]) -> Result<Front<'a>, AsmError>
 {
     let (format, behind) = front_line(text);
     if format != b"# psi 1".as_slice() {
-        return Err(AsmError::Text {
-            line: 1,
-            cause: FORMAT,
-        });
+        return Err(AsmError::at(1, FORMAT));
     }
     let (second, behind) = front_line(behind);
     let Some(steps) = number_behind(b"# steps ", 9223372036854775807, second) else {
-        return Err(AsmError::Text {
-            line: 2,
-            cause: STEPS,
-        });
+        return Err(AsmError::at(2, STEPS));
     };
     let (third, rest) = front_line(behind);
-    let Some(spill) = number_behind(b"# spill ", 134217728, third) else {
-        return Err(AsmError::Text {
-            line: 3,
-            cause: SPILL,
-        });
+    let Some(spill) = number_behind(b"# spill ", MOST_WORDS, third) else {
+        return Err(AsmError::at(3, SPILL));
     };
     Ok(Front {
         header: Header { steps, spill },

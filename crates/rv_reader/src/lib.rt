@@ -14,6 +14,7 @@ mod instruction;
 mod kind;
 mod labels;
 pub mod laws;
+mod limits;
 mod lines;
 mod names;
 mod operands;
@@ -32,3 +33,4 @@ pub use examples::{
     accepted_texts, area_refusals, header_refusals, line_refusals, reading_examples,
     target_refusals,
 };
+pub use limits::LONGEST_ASSEMBLY;

@@ -72,18 +72,18 @@ fn without_minus<'a>(text: &'a [u8]) -> &'a [u8]
     }
 }
 
-/// The greatest magnitude that is kept of an immediate.
-const FAR: i64 = 1099511627776;
+/// How far immediates are kept: `farthest` of the definitions, which is 2^40.
+const FARTHEST: i64 = 1099511627776;
 
 fn signed(minus: bool, magnitude: u64) -> i64
     ensures { result ≡ clamped (signed minus magnitude) }
 {
     if !minus {
-        magnitude.min(FAR as u64) as i64
+        magnitude.min(FARTHEST as u64) as i64
     } else if magnitude == 0 {
         0
     } else {
-        -1 - (magnitude - 1).min(FAR as u64) as i64
+        -1 - (magnitude - 1).min(FARTHEST as u64) as i64
     }
 }
 

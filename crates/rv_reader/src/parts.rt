@@ -12,7 +12,7 @@ use shapes_core::NoMemory;
 use std::alloc::Global;
 
 /// The first part, and what stands behind its space, if it has one.
-#[tactic(auto, using(crate::proofs::PartLemmas::part_next, crate::proofs::PartLemmas::part_last, crate::proofs::PartLemmas::space_shorter))]
+#[tactic(auto, using(crate::proofs::PartLemmas::part_next, crate::proofs::PartLemmas::part_last))]
 pub(crate) fn next_part<'a>(text: &'a [u8]) -> (&'a [u8], Option<&'a [u8]>)
     ensures split { slice_split (λ byte. byte == 32) text.now ≡ result.0.now ∷ parts_left result.1 }
     ensures shorter { left_len result.1 ≤ length text.now }

@@ -1,7 +1,7 @@
 // One row of an area.
 ghost use Rattle.std.specs.Prelude.{◌≡◌, ◌==◌, ◌+◌, ◌^◌, ◌<◌, ◌∷◌, ℕ, List, MatchOption, None, Some, length};
 ghost use Rattle.std.specs.Option.{option_map};
-ghost use Rattle.rv_line.specs.Fits.{names};
+ghost use Rattle.rv_line.specs.Fits.{area_names};
 ghost use Rattle.std.specs.List.{last_or, slice_split};
 ghost use Rattle.shapes_core.specs.declared.area.AreaKind.TheVariants as area;
 ghost use Rattle.rv_reader.specs.AreaRows.{area_from, checked, is_repeated, kinds, may_follow};
@@ -126,7 +126,7 @@ pub(crate) fn checked(
     offset: Option<u64>,
     extents: &Option<Vec<u64>>,
 ) -> Result<Area, u8>
-    requires names { known.now ≡ names (kinds areas.now) }
+    requires names { known.now ≡ area_names (kinds areas.now) }
     requires small { spill + words < 2 ^ 64 }
     ensures { result ≡ checked areas.now (area_from spill words kind offset (option_map (λ v. v.items) extents.now)) }
 {

@@ -2,7 +2,9 @@
 ghost use Rattle.std.specs.Prelude.{◌≡◌, ◌+◌, ◌-◌, ◌<◌, ◌≤◌, ◌^◌, ◌++◌, [], ◌∷◌, IfErr, IfOk, IfSome, MatchOption, None, Ok, OnOk, false, length, true};
 ghost use Rattle.std.specs.List.{last_or};
 ghost use Rattle.std.specs.Str.Lines.{lines};
-ghost use Rattle.rv_line.specs.Fits.{names};
+ghost use Rattle.rv_reader.specs.Limits.{longest_assembly};
+ghost use Rattle.shapes_core.specs.Limits.{most_words};
+ghost use Rattle.rv_line.specs.Fits.{area_names};
 ghost use Rattle.rv_line.specs.Rows.{is_row};
 ghost use Rattle.rv_reader.specs.AreaRows.{is_repeated, kinds, may_follow, row_of};
 ghost use Rattle.rv_reader.specs.Bodies.{IsLineRefusal};
@@ -46,16 +48,10 @@ fn read_row(
         IsLineRefusal e place (cause_in (row_of spill before.now.areas.items row.now))) }
 {
     let Some(parts) = row_parts(row) else {
-        return Err(AsmError::Text {
-            line: place,
-            cause: MALFORMED_ROW,
-        });
+        return Err(AsmError::at(place, MALFORMED_ROW));
     };
     if parts.mark != b"#".as_slice() {
-        return Err(AsmError::Text {
-            line: place,
-            cause: MALFORMED_ROW,
-        });
+        return Err(AsmError::at(place, MALFORMED_ROW));
     }
     let kind = kind_of(parts.tag, parts.word, before.next);
     let offset = number(parts.offset);
@@ -70,7 +66,7 @@ fn read_row(
         &extents,
     ) {
         Ok(area) => Ok(area),
-        Err(cause) => Err(AsmError::Text { line: place, cause }),
+        Err(cause) => Err(AsmError::at(place, cause)),
     }
 }
 
@@ -118,7 +114,7 @@ impl Areas {
     fn add(&mut self, alloc: Global, area: Area) -> Result<(), AsmError>
         requires tracked { IsTracked self.old.areas.items self.old.known self.old.words self.old.next }
         requires follows { may_follow (last_or None (kinds self.old.areas.items)) area.kind ≡ true }
-        requires new { is_repeated (names (kinds self.old.areas.items)) area.kind ≡ false }
+        requires new { is_repeated (area_names (kinds self.old.areas.items)) area.kind ≡ false }
         requires count { length self.old.areas.items < 2 ^ 26 }
         ensures areas { OnOk result (self.new.areas.items ≡ self.old.areas.items ++ area ∷ []) }
         ensures tracked { OnOk result (IsTracked self.new.areas.items self.new.known self.new.words self.new.next) }
@@ -132,7 +128,7 @@ impl Areas {
     }
 
     /// Reads the row of an area that stands behind these, and adds the area.
-    #[tactic(auto, using(crate::proofs::RowSteps::row_cause, crate::proofs::RowSteps::row_area))]
+    #[tactic(auto, using(crate::proofs::RowStepLemmas::row_cause, crate::proofs::RowStepLemmas::row_area))]
     fn add_row(&mut self, alloc: Global, spill: u64, place: u32, row: &[u8]) -> Result<(), AsmError>
         requires tracked { IsTracked self.old.areas.items self.old.known self.old.words self.old.next }
         requires small { spill + self.old.words < 2 ^ 64 - 1 }
@@ -158,7 +154,7 @@ fn is_row(line: &[u8]) -> bool
 }
 
 /// The row with which a text begins, and what stands behind it, or `None` where it begins with none.
-#[tactic(auto, using(crate::proofs::RowSteps::no_row_left, crate::proofs::RowSteps::no_row_next))]
+#[tactic(auto, using(crate::proofs::RowStepLemmas::no_row_left, crate::proofs::RowStepLemmas::no_row_next))]
 fn next_row<'a>(text: &'a [u8]) -> Option<(&'a [u8], &'a [u8])>
     ensures split { MatchOption result (IsNoRow (lines text.now)) (λ p. lines text.now ≡ p.0.now ∷ lines p.1.now) }
     ensures row { IfSome result (λ p. is_row p.0.now ≡ true) }
@@ -182,8 +178,8 @@ pub(crate) struct Rows<'a> {
 
 /// Reads the rows with which a text begins, the first of which is line 4 of the whole text.
 pub(crate) fn read_rows<'a>(alloc: Global, spill: u64, text: &'a [u8]) -> Result<Rows<'a>, AsmError>
-    requires spill { spill ≤ 134217728 }
-    requires count { length text.now ≤ 33554432 }
+    requires spill { spill ≤ most_words }
+    requires count { length text.now ≤ longest_assembly }
     ensures read { IfOk result (λ rows.
         AreRowsOf spill (lines text.now) rows.place rows.areas.items (lines rows.rest.now)) }
     ensures count { IfOk result (λ rows. length rows.areas.items + length rows.rest.now ≤ length text.now) }

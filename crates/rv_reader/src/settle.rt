@@ -72,7 +72,7 @@ fn settle_one(labels: &Labels<'_>, at: u32, draft: Draft<'_>) -> Result<Line, u8
 }
 
 /// The instructions with their targets.
-#[tactic(auto, using(crate::proofs::SettleSteps::settled_step, crate::proofs::SettleSteps::refusal_step))]
+#[tactic(auto, using(crate::proofs::SettleStepLemmas::settled_step, crate::proofs::SettleStepLemmas::refusal_step))]
 pub(crate) fn settle(alloc: Global, body: &Body<'_>) -> Result<Vec<Line>, AsmError>
     requires places { length body.now.places.items ≡ length body.now.drafts.items }
     requires count { length body.now.drafts.items < 2 ^ 32 }
@@ -87,12 +87,7 @@ pub(crate) fn settle(alloc: Global, body: &Body<'_>) -> Result<Vec<Line>, AsmErr
     for (at, draft) in body.drafts.iter().enumerate() {
         match settle_one(&body.labels, at as u32, *draft) {
             Ok(line) => lines.push(line)?,
-            Err(cause) => {
-                return Err(AsmError::Text {
-                    line: body.places[at],
-                    cause,
-                });
-            }
+            Err(cause) => return Err(AsmError::at(body.places[at], cause)),
         }
     }
     Ok(lines)

@@ -1,4 +1,4 @@
--- The loads and stores of a run.
+-- The loads and stores of a run. This project's own.
 use Rattle.std.specs.Prelude.{◌≡◌, ℕ, zero, suc, ◌≤◌, List, [], ◌∷◌, ◌++◌}
 use Rattle.rv_line.specs.declared.line.Line.{Line}
 use Rattle.rv_steps.specs.Machine.{Access, Config, NoAccess, access_at, Next, Goes, AtEnd, Halts, next_step}

@@ -1,4 +1,4 @@
--- Lines that set a register to a number.
+-- Lines that set a register to a number. This project's own.
 use Rattle.std.specs.Prelude.{ℕ, zero, suc, ◌^◌, Bool, ℤ, pos, negsuc, ◌+ℤ◌, ◌-ℤ◌, ◌*ℤ◌, if◌then◌else◌, nat_lt, List, [], ◌∷◌, ◌++◌}
 use Rattle.std.specs.Int.{int_shr}
 use Rattle.rv_line.specs.declared.line.Line.{Line}

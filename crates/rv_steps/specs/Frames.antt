@@ -1,4 +1,4 @@
--- What a step leaves as it was, and what it depends on.
+-- What a step leaves as it was, and what it depends on. This project's own.
 use Rattle.std.specs.Prelude.{◌≡◌, ℕ, ◌+◌, ◌-◌, ◌<◌, ◌≤◌, ◌⊎◌, List, ⊤, slice_index}
 use Rattle.rv_line.specs.declared.line.Line.{Line}
 use Rattle.rv_line.specs.declared.line.Line.TheVariants.{Store as StoreLine}

@@ -1,5 +1,5 @@
 -- What a program does for its caller: from any block that is as long as the header says, it ends within the printed steps, with every
--- output holding what is demanded of the inputs, and touches nothing else. This is what a compiled text is good for.
+-- output holding what is demanded of the inputs, and touches nothing else. This project's own.
 use Rattle.std.specs.Prelude.{◌≡◌, ℕ, ◌+◌, ◌*◌, ◌%◌, ◌^◌, ◌≤◌, Bool, true, false, not, ◌&&◌, ◌||◌, ◌==◌, nat_le, All, IsTrue, List, length, map, filter, ℤ}
 use Rattle.std.specs.List.{list_any, range_with_len}
 use Rattle.std.specs.Int.{w64}

@@ -1,4 +1,4 @@
--- A program of two lines, which copies its input to its output, and near misses of it.
+-- A program of two lines, which copies its input to its output, and near misses of it. This project's own.
 use Rattle.std.specs.Prelude.{ℕ, List, [], ◌∷◌, ◌++◌, ℤ, pos, codes, replicate, slice_set}
 use Rattle.shapes_core.specs.declared.area.Area.{Area}
 use Rattle.shapes_core.specs.declared.area.AreaKind.TheVariants.{In, Out}

@@ -1,4 +1,4 @@
--- What a compiled text is good for.
+-- What a compiled text is good for. This project's own.
 use Rattle.std.specs.Prelude.{◌≡◌, ℕ, List, ℤ}
 use Rattle.shapes_core.specs.declared.area.Area.{Area}
 use Rattle.rv_steps.specs.Good.{IsStart, Serves}

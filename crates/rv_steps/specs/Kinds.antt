@@ -1,4 +1,4 @@
--- Which lines are of the base instruction set, and which register a line writes.
+-- Which lines are of the base instruction set, and which register a line writes. After the RISC-V unprivileged ISA, RV64IM.
 use Rattle.std.specs.Prelude.{ℕ, Bool, true, false, not, ◌&&◌, nat_lt}
 use Rattle.rv_line.specs.declared.line.Line.{Line}
 use Rattle.rv_line.specs.declared.line.Line.TheVariants.{Three as ThreeLine, Imm as ImmLine, Load as LoadLine, Lui, Auipc, Jal, Jalr}

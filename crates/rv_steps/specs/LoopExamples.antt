@@ -1,4 +1,4 @@
--- Two loops: one that counts register 5 down to 0, and one with a choice in it.
+-- Two loops: one that counts register 5 down to 0, and one with a choice in it. This project's own.
 use Rattle.std.specs.Prelude.{◌≡◌, ℕ, ◌+◌, ◌*◌, ◌%◌, ◌^◌, List, [], ◌∷◌, length, map, ℤ, pos, neg_ℤ, if◌then◌else◌, int_lt, nat_lt}
 use Rattle.std.specs.Int.{w64}
 use Rattle.std.specs.List.{flat_map, range_with_len}

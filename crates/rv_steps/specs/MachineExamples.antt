@@ -1,4 +1,4 @@
--- The configuration from which worked examples start, and what they come to.
+-- The configuration from which worked examples start, and what they come to. This project's own.
 use Rattle.std.specs.Prelude.{ℕ, ◌^◌, List, [], ◌∷◌, length, ℤ, pos, replicate, slice_set}
 use Rattle.rv_line.specs.declared.line.Line.{Line}
 use Rattle.rv_line.specs.declared.line.Load.{Load}

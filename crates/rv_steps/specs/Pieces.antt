@@ -1,4 +1,4 @@
--- Pieces of a program.
+-- Pieces of a program. This project's own.
 use Rattle.std.specs.Prelude.{◌≡◌, ℕ, List, length, take, drop}
 use Rattle.rv_line.specs.declared.line.Line.{Line}
 

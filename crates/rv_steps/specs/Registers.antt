@@ -1,4 +1,4 @@
--- Registers before and after lines that write a few of them.
+-- Registers before and after lines that write a few of them. This project's own.
 use Rattle.std.specs.Prelude.{◌≡◌, ℕ, Bool, false, List, length, ◌==◌}
 use Rattle.std.specs.List.{list_any}
 use Rattle.rv_steps.specs.Machine.{register_at}

@@ -1,4 +1,4 @@
--- Whole numbers as words. A pointer may stand before the address 0 or behind the last one, and wraps.
+-- Whole numbers as words. A pointer may stand before the address 0 or behind the last one, and wraps. This project's own.
 use Rattle.std.specs.Prelude.{ℕ, suc, ◌-◌, ◌%◌, ◌^◌, ℤ, pos, negsuc}
 
 -- the residue of a whole number, from 0 to below the modulus

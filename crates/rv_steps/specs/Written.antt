@@ -1,4 +1,4 @@
--- Words of the block that are written one after another.
+-- Words of the block that are written one after another. This project's own.
 use Rattle.std.specs.Prelude.{◌≡◌, ℕ, ◌+◌, ◌*◌, ◌<◌, ◌≤◌, ◌⊎◌, List, length}
 use Rattle.std.specs.Int.{w64}
 use Rattle.rv_steps.specs.Machine.{value_at}

@@ -3,7 +3,7 @@
 
 ghost use Rattle.rv_steps.specs.Accesses.{Leads};
 ghost use Rattle.rv_steps.specs.Constants.{constant_lines};
-ghost use Rattle.rv_steps.specs.Effects.{signed_value, three_value};
+ghost use Rattle.rv_steps.specs.Effects.{signed_value};
 ghost use Rattle.rv_steps.specs.Good.{is_fine_load, is_fine_store, is_input, values_at};
 ghost use Rattle.rv_steps.specs.Machine.{Config, Goes, IsAt, address_of, next_step, register_at, with_register, with_result, with_value};
 ghost use Rattle.rv_steps.specs.Pieces.{StandsAt};
@@ -12,10 +12,9 @@ ghost use Rattle.rv_line.specs.Fits.{FitLines};
 ghost use Rattle.rv_line.specs.declared.assembly.Header.{Header};
 ghost use Rattle.rv_line.specs.declared.line.Imm.{Imm};
 ghost use Rattle.rv_line.specs.declared.line.Line.{Line};
-ghost use Rattle.rv_line.specs.declared.line.Three.{Three};
 ghost use Rattle.shapes_core.specs.Shape.{total};
 ghost use Rattle.shapes_core.specs.declared.area.Area.{Area};
-ghost use Rattle.std.specs.Int.{int_wrapping_add, w64};
+ghost use Rattle.std.specs.Int.{w64};
 ghost use Rattle.std.specs.List.{range_with_len};
 ghost use Rattle.std.specs.Prelude.{IsTrue, List, [], Some, false, length, map, pos, slice_get, ℕ, ◌%◌, ◌*◌, ◌+◌, ◌++◌, ◌<◌, ◌^◌, ◌≡◌, ◌≤◌, ◌⊎◌};
 
@@ -67,10 +66,4 @@ pub fn words_are_written()
     ensures others { (word count : ℕ) (value : ℕ → ℕ) (before after : List ℕ) (first size : ℕ)
         → IsWritten word count value before after → (first + size ≤ word) ⊎ (word + count ≤ first)
         → values_at after first size ≡ values_at before first size }
-{}
-
-/// The lines of arithmetic compute the operators of the language on the values of words.
-pub fn lines_compute_operators()
-    ensures add { (a b : ℕ) → a < 2 ^ 64 → b < 2 ^ 64
-        → signed_value (three_value Three.Add a b) ≡ int_wrapping_add w64 (signed_value a) (signed_value b) }
 {}

@@ -6,6 +6,7 @@ use Rattle.std.specs.Str.{bytes_eq}
 use Rattle.std.proofs.lemmas.List.{length-map, map-append}
 use Rattle.std.proofs.lemmas.List.Sums.{sum_by-cons}
 use Rattle.std.proofs.lemmas.Slice.Eq.{bytes_eq-Decides}
+use Rattle.shapes_core.specs.Limits.{most_words}
 use Rattle.shapes_core.specs.Shape.{total}
 use Rattle.shapes_core.specs.declared.area.Area.{Area}
 use Rattle.shapes_core.specs.declared.area.AreaKind.TheVariants as area
@@ -162,7 +163,7 @@ names-good shapes r k n (item ∷ items) h =
         absurd (err-not-ok f r (verdict_from shapes k n (item ∷ items))
         (ap (λ v. and_then v (λ shape. verdict_from ((name_of item, shape) ∷ shapes) (suc k) (n + length (subexpressions_of item)) items)) e) h)
 
-pub layout_kept : (items : List Item) (r : Shapes) → verdict_from [] 0 0 items ≡ Ok r → array_words (arrays items) ≤ 134217728 → IsLayout (placed 0 (arrays items))
+pub layout_kept : (items : List Item) (r : Shapes) → verdict_from [] 0 0 items ≡ Ok r → array_words (arrays items) ≤ most_words → IsLayout (placed 0 (arrays items))
 layout_kept items r accepted few =
     let gi = gathered input_of [] items in
     let go = gathered output_of [] items in

@@ -5,6 +5,7 @@ use Rattle.std.specs.List.{AllByRecursion, list_any, range_with_len, sum_by}
 use Rattle.std.specs.Str.{bytes_eq}
 use Rattle.std.proofs.lemmas.Bool.{lt-ltb, ltb-true}
 use Rattle.std.proofs.lemmas.List.{append-nil, drop_all, take_all}
+use Rattle.shapes_core.specs.Limits.{greatest_size, greatest_work, most_words}
 use Rattle.shapes_core.specs.declared.area.Area.{Area}
 use Rattle.moa_tree.specs.Expr.{Item}
 use Rattle.moa_tree.specs.Pool.{item_of, trees, walk_of}
@@ -115,13 +116,13 @@ module _ (pools : Pools) (p : Progress) (s : Surveyed pools p) where
   items = items_in pools
 
   abbrev sized_limit : List Failure
-  sized_limit = limit None 5 1024 (size items)
+  sized_limit = limit None 5 greatest_size (size items)
 
   abbrev worked_limit : List Failure
-  worked_limit = limit None 6 (2 ^ 40) (work items)
+  worked_limit = limit None 6 greatest_work (work items)
 
   abbrev worded_limit : List Failure
-  worded_limit = limit None 7 134217728 (words items)
+  worded_limit = limit None 7 most_words (words items)
 
   verdict-is : verdict_of items ≡ judged (program_limits items) s.shapes
   verdict-is = ap (λ r. and_then r (λ shapes. judged (program_limits items) shapes)) s.verdict
@@ -129,45 +130,45 @@ module _ (pools : Pools) (p : Progress) (s : Surveyed pools p) where
   refused-by : (which value : ℕ) → judged (program_limits items) s.shapes ≡ Err (Failure.Limit None which value) → IsRefusedSo pools (error.Limit None which value)
   refused-by which value e = record { failure = Failure.Limit None which value; refused = verdict-is ∙ e; answered = refl }
 
-  pub size_refused : 1024 < p.totals.size → p.totals.size < 2 ^ 64 → IsRefusedSo pools (error.Limit None 5 p.totals.size)
+  pub size_refused : greatest_size < p.totals.size → p.totals.size < 2 ^ 64 → IsRefusedSo pools (error.Limit None 5 p.totals.size)
   size_refused h fits =
       refused-by 5 p.totals.size
-      (ap (λ l. judged (l ++ worked_limit ++ worded_limit) s.shapes) (limit-beyond 5 1024 p.totals.size (size items) h fits s.size))
+      (ap (λ l. judged (l ++ worked_limit ++ worded_limit) s.shapes) (limit-beyond 5 greatest_size p.totals.size (size items) h fits s.size))
 
-  module _ (small : p.totals.size ≤ 1024) where
+  module _ (small : p.totals.size ≤ greatest_size) where
     sized-kept : sized_limit ≡ []
-    sized-kept = limit-kept 5 1024 p.totals.size (size items) small (omega arith) s.size
+    sized-kept = limit-kept 5 greatest_size p.totals.size (size items) small (omega arith) s.size
 
-    pub work_refused : 2 ^ 40 < p.totals.work → p.totals.work < 2 ^ 64 → IsRefusedSo pools (error.Limit None 6 p.totals.work)
+    pub work_refused : greatest_work < p.totals.work → p.totals.work < 2 ^ 64 → IsRefusedSo pools (error.Limit None 6 p.totals.work)
     work_refused h fits =
         refused-by 6 p.totals.work
         (ap (λ l. judged (l ++ worked_limit ++ worded_limit) s.shapes) sized-kept
-        ∙ ap (λ l. judged (l ++ worded_limit) s.shapes) (limit-beyond 6 (2 ^ 40) p.totals.work (work items) h fits s.work))
+        ∙ ap (λ l. judged (l ++ worded_limit) s.shapes) (limit-beyond 6 greatest_work p.totals.work (work items) h fits s.work))
 
-    module _ (quick : p.totals.work ≤ 2 ^ 40) (all : List Array) (they : all ≡ arrays items) where
+    module _ (quick : p.totals.work ≤ greatest_work) (all : List Array) (they : all ≡ arrays items) where
       worked-kept : worked_limit ≡ []
-      worked-kept = limit-kept 6 (2 ^ 40) p.totals.work (work items) quick (omega arith) s.work
+      worked-kept = limit-kept 6 greatest_work p.totals.work (work items) quick (omega arith) s.work
 
       words-are : array_words all ≡ words items
       words-are = ap array_words they ∙ sym (words-placed 0 (arrays items))
 
-      pub words_refused : (value : ℕ) → value ≡ capped (array_words all) → 134217728 < value → value < 2 ^ 64 → IsRefusedSo pools (error.Limit None 7 value)
+      pub words_refused : (value : ℕ) → value ≡ capped (array_words all) → most_words < value → value < 2 ^ 64 → IsRefusedSo pools (error.Limit None 7 value)
       words_refused value e h fits =
           refused-by 7 value
           (ap (λ l. judged (l ++ worked_limit ++ worded_limit) s.shapes) sized-kept
           ∙ ap (λ l. judged (l ++ worded_limit) s.shapes) worked-kept
-          ∙ ap (λ l. judged l s.shapes) (limit-beyond 7 134217728 value (words items) h fits (omega (arith, e, words-are))))
+          ∙ ap (λ l. judged l s.shapes) (limit-beyond 7 most_words value (words items) h fits (omega (arith, e, words-are))))
 
-      pub words_small : (value : ℕ) → value ≡ capped (array_words all) → value ≤ 134217728 → array_words all ≤ 134217728
+      pub words_small : (value : ℕ) → value ≡ capped (array_words all) → value ≤ most_words → array_words all ≤ most_words
       words_small value e h = omega (arith, e, h)
 
-      pub is_checked : array_words all ≤ 134217728 → (layout : List Area) → layout ≡ placed 0 all
+      pub is_checked : array_words all ≤ most_words → (layout : List Area) → layout ≡ placed 0 all
           → IsChecked (record { pools = pools; shapes = p.shapes.items; statement_shapes = p.statement_shapes.items; jobs = p.jobs.items; areas = layout; size = p.totals.size; work = p.totals.work })
       is_checked few layout laid = record {
         accepted = subst IsOk (sym (verdict-is
             ∙ ap (λ l. judged (l ++ worked_limit ++ worded_limit) s.shapes) sized-kept
             ∙ ap (λ l. judged (l ++ worded_limit) s.shapes) worked-kept
-            ∙ ap (λ l. judged l s.shapes) (limit-kept 7 134217728 (array_words all) (words items) few (omega arith) (ap capped words-are)))) refl;
+            ∙ ap (λ l. judged l s.shapes) (limit-kept 7 most_words (array_words all) (words items) few (omega arith) (ap capped words-are)))) refl;
         each = s.sized;
         shapes_of_nodes = s.nodes;
         shapes_of_statements = s.statements;

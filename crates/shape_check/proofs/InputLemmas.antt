@@ -3,6 +3,7 @@ use Rattle.std.proofs.Common.{◌≡◌, ℕ, Bool, true, false, cond, List, [],
 use Rattle.std.specs.Prelude.{nat_lt, Some, Result, Ok, Err}
 use Rattle.std.specs.List.{flat_map}
 use Rattle.std.proofs.lemmas.List.{map-append}
+use Rattle.shapes_core.specs.Limits.{greatest_extent}
 use Rattle.shapes_core.specs.Shape.{span}
 use Rattle.shape_check.specs.declared.broken.Broken.{Broken}
 use Rattle.shape_check.specs.declared.broken.Broken.TheVariants as broken
@@ -27,21 +28,21 @@ if-moved place other which value false = refl
 limit-moved : (place other : Place) (which greatest value : ℕ) → limit (Some place) which greatest value ≡ map (moved place) (limit (Some other) which greatest value)
 limit-moved place other which greatest value = if-moved place other which (min value (2 ^ 64 - 1)) (nat_lt greatest value)
 
-each-moved : (place other : Place) (shape : List ℕ) → flat_map (limit (Some place) 3 16777216) shape ≡ map (moved place) (flat_map (limit (Some other) 3 16777216) shape)
+each-moved : (place other : Place) (shape : List ℕ) → flat_map (limit (Some place) 3 greatest_extent) shape ≡ map (moved place) (flat_map (limit (Some other) 3 greatest_extent) shape)
 each-moved place other [] = refl
 each-moved place other (extent ∷ shape) =
-    ap (λ l. l ++ flat_map (limit (Some place) 3 16777216) shape) (limit-moved place other 3 16777216 extent)
-    ∙ ap (λ l. map (moved place) (limit (Some other) 3 16777216 extent) ++ l) (each-moved place other shape)
-    ∙ sym (map-append (moved place) (limit (Some other) 3 16777216 extent) (flat_map (limit (Some other) 3 16777216) shape))
+    ap (λ l. l ++ flat_map (limit (Some place) 3 greatest_extent) shape) (limit-moved place other 3 greatest_extent extent)
+    ∙ ap (λ l. map (moved place) (limit (Some other) 3 greatest_extent extent) ++ l) (each-moved place other shape)
+    ∙ sym (map-append (moved place) (limit (Some other) 3 greatest_extent extent) (flat_map (limit (Some other) 3 greatest_extent) shape))
 
 limits-moved : (place other : Place) (shape : List ℕ) → shape_limits place shape ≡ map (moved place) (shape_limits other shape)
 limits-moved place other shape =
     let a = limit (Some other) 2 6 (length shape) in
-    let b = flat_map (limit (Some other) 3 16777216) shape in
-    let c = limit (Some other) 4 16777216 (span shape) in
-    ap (λ l. (l ++ flat_map (limit (Some place) 3 16777216) shape) ++ limit (Some place) 4 16777216 (span shape)) (limit-moved place other 2 6 (length shape))
-    ∙ ap (λ l. (map (moved place) a ++ l) ++ limit (Some place) 4 16777216 (span shape)) (each-moved place other shape)
-    ∙ ap (λ l. (map (moved place) a ++ map (moved place) b) ++ l) (limit-moved place other 4 16777216 (span shape))
+    let b = flat_map (limit (Some other) 3 greatest_extent) shape in
+    let c = limit (Some other) 4 greatest_extent (span shape) in
+    ap (λ l. (l ++ flat_map (limit (Some place) 3 greatest_extent) shape) ++ limit (Some place) 4 greatest_extent (span shape)) (limit-moved place other 2 6 (length shape))
+    ∙ ap (λ l. (map (moved place) a ++ l) ++ limit (Some place) 4 greatest_extent (span shape)) (each-moved place other shape)
+    ∙ ap (λ l. (map (moved place) a ++ map (moved place) b) ++ l) (limit-moved place other 4 greatest_extent (span shape))
     ∙ ap (λ l. l ++ map (moved place) c) (sym (map-append (moved place) a b))
     ∙ sym (map-append (moved place) (a ++ b) c)
 

@@ -1,5 +1,5 @@
 -- What the verdict on statements amounts to: each is accepted among the names before it, and has a new name.
-use Rattle.std.specs.Prelude.{◌≡◌, ℕ, zero, suc, ◌+◌, ◌^◌, ◌<◌, ◌≤◌, true, false, not, List, [], ◌∷◌, ◌++◌, length, map, reverse, slice_index_or, Ok}
+use Rattle.std.specs.Prelude.{◌≡◌, ℕ, zero, suc, ◌+◌, ◌<◌, ◌≤◌, true, false, not, List, [], ◌∷◌, ◌++◌, length, map, reverse, slice_index_or, Ok}
 use Rattle.std.specs.List.{AllByRecursion, AllPairs, fold, list_all}
 use Rattle.std.specs.Str.{bytes_eq}
 use Rattle.std.proofs.Common.{refl, ap, sym, subst, ◌∙◌, arith, append_assoc}
@@ -7,6 +7,7 @@ use Rattle.std.proofs.lemmas.Bool.{not-true, or_parts}
 use Rattle.std.proofs.lemmas.Bool.Decides.{not_from_Decides}
 use Rattle.std.proofs.lemmas.Grind.{reverse_onto}
 use Rattle.std.proofs.lemmas.Slice.Eq.{bytes_eq-Decides}
+use Rattle.shapes_core.specs.Limits.{greatest_size, greatest_work, most_words}
 use Rattle.shapes_core.specs.Shape.{IsShape}
 use Rattle.moa_tree.specs.Axes.{naturals}
 use Rattle.moa_tree.specs.Expr.{Expr, Item, Input, Let, Output}
@@ -163,8 +164,8 @@ item-among shapes (first ∷ before) after item h = item-among (shapes_after sha
 
 -- ---- the limits of a program
 
-pub limits-kept : (items : List Item) → program_limits items ≡ [] → (size items ≤ 1024) × (work items ≤ 2 ^ 40) × (words items ≤ 134217728)
+pub limits-kept : (items : List Item) → program_limits items ≡ [] → (size items ≤ greatest_size) × (work items ≤ greatest_work) × (words items ≤ most_words)
 limits-kept items h =
     let parts = neither _ _ h in
     let front = neither _ _ parts.0 in
-    (limited 1024 (size items) _ front.0, limited (2 ^ 40) (work items) _ front.1, limited 134217728 (words items) _ parts.1)
+    (limited greatest_size (size items) _ front.0, limited greatest_work (work items) _ front.1, limited most_words (words items) _ parts.1)

@@ -6,6 +6,7 @@ use Rattle.std.proofs.lemmas.Bool.{cases_lt}
 use Rattle.std.proofs.lemmas.Bool.Decides.{nat_tests}
 use Rattle.std.proofs.lemmas.List.{at_drop_more}
 use Rattle.std.proofs.Math.Nat.{mul_assoc}
+use Rattle.shapes_core.specs.Limits.{greatest_extent}
 use Rattle.shapes_core.specs.Shape.{is_shape, span, total}
 use Rattle.moa_tree.specs.Axes.{naturals}
 use Rattle.shape_check.specs.Rules.{Failure, Place, limit, shape_limits}
@@ -63,10 +64,10 @@ beyond place which greatest value h = grind (arith, nat_tests)
 pub shape-within : (place : Place) (shape : List ℕ) → IsTrue (is_shape shape) → shape_limits place shape ≡ []
 shape-within place shape h =
     let axes = within (Some place) 2 6 (length shape) (grind (arith, nat_tests)) in
-    let extents = each-within (Some place) 3 16777216 shape (grind (arith, nat_tests)) in
-    let all = within (Some place) 4 16777216 (span shape) (grind (arith, nat_tests)) in
-    ap (λ l. l ++ flat_map (limit (Some place) 3 16777216) shape ++ limit (Some place) 4 16777216 (span shape)) axes
-    ∙ ap (λ l. l ++ limit (Some place) 4 16777216 (span shape)) extents ∙ all
+    let extents = each-within (Some place) 3 greatest_extent shape (grind (arith, nat_tests)) in
+    let all = within (Some place) 4 greatest_extent (span shape) (grind (arith, nat_tests)) in
+    ap (λ l. l ++ flat_map (limit (Some place) 3 greatest_extent) shape ++ limit (Some place) 4 greatest_extent (span shape)) axes
+    ∙ ap (λ l. l ++ limit (Some place) 4 greatest_extent (span shape)) extents ∙ all
 
 -- the first extent that is too large
 found-beyond : (place : Place) (n extent : ℕ) (found : Option ℕ) (rest others : List Failure) (made : List ℕ) (large : Bool) → (if large then Some n else found) ≡ Some extent
@@ -114,25 +115,25 @@ find-fits bound greatest extent (n ∷ shape) fits h = elim (cases_lt greatest n
 
 -- the answer where an extent is too large, and where the span is, after the limits before it
 pub extent-beyond : (place : Place) (extent : ℕ) (shape : List ℕ) → length shape ≤ 6 → ((i : ℕ) → slice_index shape i < 2 ^ 64)
-    → find (λ n. nat_lt 16777216 n) shape ≡ Some extent → judged (shape_limits place shape) shape ≡ Err (Failure.Limit (Some place) 3 extent)
+    → find (λ n. nat_lt greatest_extent n) shape ≡ Some extent → judged (shape_limits place shape) shape ≡ Err (Failure.Limit (Some place) 3 extent)
 extent-beyond place extent shape few fits h =
     let axes = within (Some place) 2 6 (length shape) few in
-    let fitting = find-fits (2 ^ 64) 16777216 extent shape fits h in
+    let fitting = find-fits (2 ^ 64) greatest_extent extent shape fits h in
     let same : min extent (2 ^ 64 - 1) ≡ extent = omega (arith, fitting) in
-    ap (λ l. judged (l ++ flat_map (limit (Some place) 3 16777216) shape ++ limit (Some place) 4 16777216 (span shape)) shape) axes
-    ∙ first-beyond place 16777216 extent shape shape (limit (Some place) 4 16777216 (span shape)) h
+    ap (λ l. judged (l ++ flat_map (limit (Some place) 3 greatest_extent) shape ++ limit (Some place) 4 greatest_extent (span shape)) shape) axes
+    ∙ first-beyond place greatest_extent extent shape shape (limit (Some place) 4 greatest_extent (span shape)) h
     ∙ ap (λ value. Err (Failure.Limit (Some place) 3 value)) same
 
-pub span-beyond : (place : Place) (shape : List ℕ) → length shape ≤ 6 → find (λ n. nat_lt 16777216 n) shape ≡ None → is_shape shape ≡ false
+pub span-beyond : (place : Place) (shape : List ℕ) → length shape ≤ 6 → find (λ n. nat_lt greatest_extent n) shape ≡ None → is_shape shape ≡ false
     → judged (shape_limits place shape) shape ≡ Err (Failure.Limit (Some place) 4 (min (span shape) (2 ^ 64 - 1)))
 span-beyond place shape few none refused =
-    let small = find-small 16777216 shape none in
+    let small = find-small greatest_extent shape none in
     let axes = within (Some place) 2 6 (length shape) few in
-    let extents = each-within (Some place) 3 16777216 shape small in
-    let large : 16777216 < span shape = grind (arith, nat_tests) in
-    let last = beyond (Some place) 4 16777216 (span shape) large in
-    ap (λ l. judged (l ++ flat_map (limit (Some place) 3 16777216) shape ++ limit (Some place) 4 16777216 (span shape)) shape) axes
-    ∙ ap (λ l. judged (l ++ limit (Some place) 4 16777216 (span shape)) shape) extents
+    let extents = each-within (Some place) 3 greatest_extent shape small in
+    let large : greatest_extent < span shape = grind (arith, nat_tests) in
+    let last = beyond (Some place) 4 greatest_extent (span shape) large in
+    ap (λ l. judged (l ++ flat_map (limit (Some place) 3 greatest_extent) shape ++ limit (Some place) 4 greatest_extent (span shape)) shape) axes
+    ∙ ap (λ l. judged (l ++ limit (Some place) 4 greatest_extent (span shape)) shape) extents
     ∙ ap (λ l. judged l shape) last
 
 -- each extent of a shape is small
@@ -141,5 +142,5 @@ all-small greatest [] h axis = omega arith
 all-small greatest (n ∷ shape) h zero = grind (arith, nat_tests)
 all-small greatest (n ∷ shape) h (suc axis) = all-small greatest shape (grind (arith, nat_tests)) axis
 
-pub shape-small : (shape : List ℕ) → IsTrue (is_shape shape) → (axis : ℕ) → slice_index shape axis ≤ 16777216
-shape-small shape h = all-small 16777216 shape (grind (arith, nat_tests))
+pub shape-small : (shape : List ℕ) → IsTrue (is_shape shape) → (axis : ℕ) → slice_index shape axis ≤ greatest_extent
+shape-small shape h = all-small greatest_extent shape (grind (arith, nat_tests))

@@ -6,7 +6,7 @@ use Rattle.std.proofs.lemmas.List.{length-map}
 use Rattle.shapes_core.specs.declared.area.AreaKind.TheVariants as area
 use Rattle.shapes_core.specs.Gamma.{rows}
 use Rattle.shapes_core.specs.Shape.{total}
-use Rattle.moa_tree.specs.Denotation.{Store, after, after_all, denote_from, denote_scans_from, outputs_of, scans_of, values}
+use Rattle.moa_tree.specs.Denotation.{Store, env_after, env_after_all, denote_from, denote_scans_from, outputs_of, scans_of, values}
 use Rattle.moa_tree.specs.Expr.{Expr, Item, Input, Let, Output}
 use Rattle.moa_tree.specs.ShapeOf.{shape_of}
 use Rattle.moa_tree.specs.Values.{Env, shape_in, shapes_of, value}
@@ -21,15 +21,15 @@ values-counted counted env expr = length-map (rows (shape_in env expr)) (value e
 
 -- ---- the shapes of the names after some statements
 
-shapes-after-one : (inputs : Store) (env : Env) (item : Item) → shapes_of (after inputs env item) ≡ shapes_after (shapes_of env) item
+shapes-after-one : (inputs : Store) (env : Env) (item : Item) → shapes_of (env_after inputs env item) ≡ shapes_after (shapes_of env) item
 shapes-after-one inputs env (Input name extents) = refl
 shapes-after-one inputs env (Let name of) = refl
 shapes-after-one inputs env (Output name of) = refl
 
-pub shapes-after-all : (inputs : Store) (env : Env) (items : List Item) → shapes_of (after_all inputs env items) ≡ fold shapes_after (shapes_of env) items
+pub shapes-after-all : (inputs : Store) (env : Env) (items : List Item) → shapes_of (env_after_all inputs env items) ≡ fold shapes_after (shapes_of env) items
 shapes-after-all inputs env [] = refl
 shapes-after-all inputs env (item ∷ items) =
-    shapes-after-all inputs (after inputs env item) items ∙ ap (λ shapes. fold shapes_after shapes items) (shapes-after-one inputs env item)
+    shapes-after-all inputs (env_after inputs env item) items ∙ ap (λ shapes. fold shapes_after shapes items) (shapes-after-one inputs env item)
 
 -- ---- list by list
 
@@ -55,9 +55,9 @@ pub outputs-counted : AreCounted → (inputs : Store) (env : Env) (items : List 
 outputs-counted counted inputs env [] = tt
 outputs-counted counted inputs env (item ∷ items) =
     zip-append IsCounted (outputs_of env item) (output_of (shapes_of env) item)
-    (denote_from inputs (after inputs env item) items) (gathered output_of (shapes_after (shapes_of env) item) items) (one-output counted env item)
-    (subst (λ shapes. AllZip IsCounted (denote_from inputs (after inputs env item) items) (gathered output_of shapes items)) (shapes-after-one inputs env item)
-    (outputs-counted counted inputs (after inputs env item) items))
+    (denote_from inputs (env_after inputs env item) items) (gathered output_of (shapes_after (shapes_of env) item) items) (one-output counted env item)
+    (subst (λ shapes. AllZip IsCounted (denote_from inputs (env_after inputs env item) items) (gathered output_of shapes items)) (shapes-after-one inputs env item)
+    (outputs-counted counted inputs (env_after inputs env item) items))
 
 some-counted : AreCounted → (env : Env) (exprs : List Expr) → AllZip HasTotal (map (values env) exprs) (map (shape_of (shapes_of env)) exprs)
 some-counted counted env [] = tt
@@ -68,6 +68,6 @@ pub scans-counted : AreCounted → (inputs : Store) (env : Env) (items : List It
 scans-counted counted inputs env [] = tt
 scans-counted counted inputs env (item ∷ items) =
     zip-append HasTotal (map (values env) (scans_of item)) (scan_shapes (shapes_of env) item)
-    (denote_scans_from inputs (after inputs env item) items) (gathered scan_shapes (shapes_after (shapes_of env) item) items) (some-counted counted env (scans_of item))
-    (subst (λ shapes. AllZip HasTotal (denote_scans_from inputs (after inputs env item) items) (gathered scan_shapes shapes items)) (shapes-after-one inputs env item)
-    (scans-counted counted inputs (after inputs env item) items))
+    (denote_scans_from inputs (env_after inputs env item) items) (gathered scan_shapes (shapes_after (shapes_of env) item) items) (some-counted counted env (scans_of item))
+    (subst (λ shapes. AllZip HasTotal (denote_scans_from inputs (env_after inputs env item) items) (gathered scan_shapes shapes items)) (shapes-after-one inputs env item)
+    (scans-counted counted inputs (env_after inputs env item) items))

@@ -1,11 +1,12 @@
 -- From one statement to the next.
-use Rattle.std.proofs.Common.{◌≡◌, ℕ, suc, ◌+◌, ◌<◌, ◌≤◌, true, false, cond, List, [], ◌∷◌, ◌++◌, refl, ap, sym, ◌∙◌, arith, inl, inr, length, map, append_assoc, length-append, ◌||◌}
-use Rattle.std.specs.Prelude.{◌==◌, Ok, Err, Some, Result, eqb, slice_get, ⊤}
+use Rattle.std.proofs.Common.{◌≡◌, ℕ, suc, ◌+◌, ◌<◌, ◌≤◌, true, false, cond, List, [], ◌∷◌, ◌++◌, refl, ap, sym, subst, ◌∙◌, arith, inl, inr, length, map, append_assoc, length-append, ◌||◌}
+use Rattle.std.specs.Prelude.{◌==◌, IfErr, OnOk, Ok, Err, Some, Result, eqb, slice_get, ⊤}
 use Rattle.std.specs.List.{AllByRecursion, IsDistinct, count_by, flat_map, list_any, sum_by}
 use Rattle.std.proofs.lemmas.Bool.{cases_eq, eq-eqb, false≢true, ne_eqb}
 use Rattle.std.proofs.lemmas.List.{length-map, map-append}
 use Rattle.std.proofs.lemmas.List.Sums.{sum_by-cons}
 use Rattle.std.proofs.lemmas.Map.Steps.{length-le_from_distinct_below}
+use Rattle.std.proofs.lemmas.Result.{IfErr-weaker, on_ok_weaker}
 use Rattle.shapes_core.specs.declared.area.AreaKind.TheVariants as area
 use Rattle.moa_tree.specs.declared.tree.Statement.{Statement}
 use Rattle.moa_tree.specs.Denotation.{scans_of}
@@ -25,7 +26,7 @@ use Rattle.shape_check.specs.Judged.{capped}
 use Rattle.shape_check.specs.Kept.{IsRefusedSo, pooled, shapes_at}
 use Rattle.shape_check.specs.Layout.{gathered, input_of, name_of, numbered, output_of, scan_shapes, shapes_after}
 use Rattle.shape_check.specs.Kept.{Explains}
-use Rattle.shape_check.specs.Progress.{Adds, Fails, FailsAt, IsReached, left_of, next_output, next_scan, nodes_shapes, own_shape, walked}
+use Rattle.shape_check.specs.Progress.{Adds, Fails, FailsAt, IsReached, Reached, left_of, next_output, next_scan, nodes_shapes, own_shape, walked}
 use Rattle.shape_check.specs.Statements.{program_limits, verdict_from}
 use Rattle.shape_check.specs.Verdict.{and_then, judged}
 use Rattle.shape_check.proofs.ScanLemmas.{length-numbered}
@@ -180,6 +181,24 @@ module _ (pools : Pools) (inventory : Inventory) (count : ℕ) (s : Statement) (
   explains (error.Rule at rule) h = refuses (error.Rule at rule) h
   explains (error.Limit at which value) h = refuses (error.Limit at which value) h
   explains error.Memory h = tt
+
+-- a call that adds a statement or fails at it goes on by one statement, or explains how the program fails
+module _ {A : Type 0} (pools : Pools) (inventory : Inventory) (count : ℕ) (s : Statement) (there : slice_get pools.statements count ≡ Some s) (old : Progress)
+    (reached : Reached pools inventory count old) (result : Result A CheckError) where
+  pub goes_on : (new : Progress) → OnOk result (Adds pools inventory reached.0 count (item_of pools.numbers (trees pools.numbers pools.nodes) s) old new)
+      → OnOk result (Reached pools inventory (count + 1) new)
+  goes_on new added =
+      let next : suc count ≡ count + 1 = omega arith in
+      on_ok_weaker result
+      (λ adds.
+      subst (λ k. Reached pools inventory k new) next
+      (prices_after reached.0 (item_of pools.numbers (trees pools.numbers pools.nodes) s), next_reached pools inventory count s there old new reached.0 reached.1 adds))
+      added
+
+  pub fails_so : IfErr result (Fails pools reached.0 count (item_of pools.numbers (trees pools.numbers pools.nodes) s)) → IfErr result (Explains pools)
+  fails_so failed =
+      IfErr-weaker result (Fails pools reached.0 count (item_of pools.numbers (trees pools.numbers pools.nodes) s)) (Explains pools)
+      (λ found fails. explains pools inventory count s there old reached.0 reached.1 found fails) failed
 
 -- ---- a walk is no longer than its nodes
 

@@ -6,14 +6,14 @@ use Rattle.std.proofs.lemmas.List.{append-nil, get_or_read, length-map, length-t
 use Rattle.std.proofs.lemmas.Option.{get_or_from_slice_get}
 use Rattle.moa_tree.specs.declared.tree.Node.{Node}
 use Rattle.moa_tree.specs.declared.tree.Node.TheVariants as node
-use Rattle.moa_tree.specs.Pool.{IsOrdered, operands, walk_of}
-use Rattle.shape_check.specs.declared.scans.Operands.{Operands}
-use Rattle.shape_check.specs.declared.scans.Operands.TheVariants as operand
+use Rattle.moa_tree.specs.Pool.{IsOrdered, listed, operands, walk_of}
+use Rattle.moa_tree.specs.declared.tree.Operands.{Operands}
+use Rattle.moa_tree.specs.declared.tree.Operands.TheVariants as operand
 use Rattle.shape_check.specs.declared.scans.PoolScan.{PoolScan}
 use Rattle.shape_check.proofs.NodeLemmas.{WalksStep, flat-flat, walk-step}
 use Rattle.shapes_core.specs.declared.area.AreaKind.TheVariants as area
 use Rattle.shape_check.specs.Layout.{Array, numbered}
-use Rattle.shape_check.specs.Scans.{listed, node_at, numbered_jobs, scan_of, scans_at}
+use Rattle.shape_check.specs.Scans.{node_at, numbered_jobs, scan_of, scans_at}
 
 pub scans-step : WalksStep → (nodes : List Node) → IsOrdered nodes → (number : ℕ) (n : Node) → slice_get nodes number ≡ Some n
     → scans_at nodes (walk_of nodes number) ≡ scan_of n ++ flat_map (λ o. scans_at nodes (walk_of nodes o)) (operands n)

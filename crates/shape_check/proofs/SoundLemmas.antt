@@ -3,6 +3,7 @@ use Rattle.std.specs.Prelude.{◌≡◌, ◌==◌, ◌||◌, ℕ, suc, ◌+◌, 
 use Rattle.std.specs.List.{flat_map, list_all, remove}
 use Rattle.std.proofs.Common.{refl, ap, sym, ◌∙◌}
 use Rattle.std.proofs.lemmas.Bool.{and_from, and_parts, le-ltb, le-leb, leb-true, ltb-false}
+use Rattle.shapes_core.specs.Limits.{greatest_extent}
 use Rattle.shapes_core.specs.Shape.{IsShape, are_small, span, total}
 use Rattle.moa_tree.specs.Axes.{but_last, common, each_extent, joined, naturals, remaining, selected, taken}
 use Rattle.moa_tree.specs.Expr.{Expr, Number, Use, Iota, One, Two, Psi, Take, Drop, Reverse, Rotate, Transpose, Permute, Cat, Reshape, Ravel, Outer, Inner, Reduce, Scan}
@@ -150,23 +151,23 @@ limits-shape place shape h =
     let parts = neither _ _ h in
     let front = neither _ _ parts.0 in
     and_from (nat_le (length shape) 6) (are_small shape) (le-leb (length shape) 6 (limited 6 (length shape) _ front.0))
-    (and_from (list_all (λ n. nat_le n 16777216) shape) (nat_le (span shape) 16777216) (each-limited 16777216 _ shape front.1)
-    (le-leb (span shape) 16777216 (limited 16777216 (span shape) _ parts.1)))
+    (and_from (list_all (λ n. nat_le n greatest_extent) shape) (nat_le (span shape) greatest_extent) (each-limited greatest_extent _ shape front.1)
+    (le-leb (span shape) greatest_extent (limited greatest_extent (span shape) _ parts.1)))
 
 pub shape-limits : (place : Place) (shape : List ℕ) → IsShape shape → shape_limits place shape ≡ []
 shape-limits place shape h =
     let parts = and_parts (nat_le (length shape) 6) (are_small shape) h in
-    let small = and_parts (list_all (λ n. nat_le n 16777216) shape) (nat_le (span shape) 16777216) parts.1 in
+    let small = and_parts (list_all (λ n. nat_le n greatest_extent) shape) (nat_le (span shape) greatest_extent) parts.1 in
     both-none _ _
     (both-none _ _
-    (unlimited 6 (length shape) _ (leb-true (length shape) 6 parts.0)) (each-unlimited 16777216 _ shape small.0))
-    (unlimited 16777216 (span shape) _ (leb-true (span shape) 16777216 small.1))
+    (unlimited 6 (length shape) _ (leb-true (length shape) 6 parts.0)) (each-unlimited greatest_extent _ shape small.0))
+    (unlimited greatest_extent (span shape) _ (leb-true (span shape) greatest_extent small.1))
 
-pub extent-small : (n : ℕ) → IsShape (n ∷ []) → n ≤ 16777216
+pub extent-small : (n : ℕ) → IsShape (n ∷ []) → n ≤ greatest_extent
 extent-small n h =
     let small = (and_parts (nat_le (length (n ∷ [])) 6) (are_small (n ∷ [])) h).1 in
-    let each = (and_parts (list_all (λ m. nat_le m 16777216) (n ∷ [])) (nat_le (span (n ∷ [])) 16777216) small).0 in
-    leb-true n 16777216 (and_parts (nat_le n 16777216) (list_all (λ m. nat_le m 16777216) []) each).0
+    let each = (and_parts (list_all (λ m. nat_le m greatest_extent) (n ∷ [])) (nat_le (span (n ∷ [])) greatest_extent) small).0 in
+    leb-true n greatest_extent (and_parts (nat_le n greatest_extent) (list_all (λ m. nat_le m greatest_extent) []) each).0
 
 -- ---- a node after its operands
 

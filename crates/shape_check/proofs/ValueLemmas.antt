@@ -7,6 +7,7 @@ use Rattle.std.proofs.Common.{refl, ap, sym, subst, ◌∙◌, arith}
 use Rattle.std.proofs.lemmas.Bool.{eqb-true}
 use Rattle.std.proofs.lemmas.List.Elements.{Contains-append_left, Contains-append_right}
 use Rattle.std.proofs.lemmas.List.FromFn.{get_or-map-range_with_len, length-map-range_with_len}
+use Rattle.shapes_core.specs.Limits.{greatest_extent}
 use Rattle.shapes_core.specs.Gamma.{IsIndex, gamma, ungamma}
 use Rattle.shapes_core.specs.Shape.{IsShape, total}
 use Rattle.moa_tree.specs.declared.operator.Op.{Op}
@@ -28,7 +29,7 @@ Unravels = (s t index : List ℕ) → total t ≡ total s → IsIndex index t �
 
 -- a relation that the operators and small numbers keep
 pub record IsKept (R : ℤ → ℤ → Type 0) : Type 0 where
-  pub small : (n : ℕ) → n < 16777216 → R (pos n) (pos n)
+  pub small : (n : ℕ) → n < greatest_extent → R (pos n) (pos n)
   pub unary : (op : Unary) (x y : ℤ) → R x y → R (apply_unary op x) (apply_unary op y)
   pub binary : (op : Op) (x y u v : ℤ) → R x u → R y v → R (apply op x y) (apply op u v)
   pub folds : (op : Op) (count : ℕ) (f g : ℕ → ℤ) → ((k : ℕ) → k < count → R (f k) (g k)) → R (fold_below op count f) (fold_below op count g)
@@ -93,7 +94,7 @@ in-right : (R : ℤ → ℤ → Type 0) (expr left right : Expr)
 in-right R expr left right h number at =
     h number (contains-later (Number number) expr (subexpressions left ++ subexpressions right) (Contains-append_right (subexpressions left) (subexpressions right) (Number number) at))
 
-place-small : (n : ℕ) (index : List ℕ) → IsShape (n ∷ []) → IsIndex index (n ∷ []) → slice_index index 0 < 16777216
+place-small : (n : ℕ) (index : List ℕ) → IsShape (n ∷ []) → IsIndex index (n ∷ []) → slice_index index 0 < greatest_extent
 place-small n [] h inside = absurd inside
 place-small n (i ∷ index) h inside = omega (arith, extent-small n h, inside.0)
 

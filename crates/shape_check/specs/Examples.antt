@@ -1,4 +1,4 @@
--- How the worked examples are written: programs as they stand in a text, and what fails in them.
+-- How the worked examples are written: programs as they stand in a text, and what fails in them. This project's own.
 use Rattle.std.specs.Prelude.{ℕ, List, codes, Option, None, Some, Result, Ok, Err}
 use Rattle.moa_tree.specs.declared.tree.Version.TheVariants.{First}
 use Rattle.moa_tree.specs.Expr.{Item}

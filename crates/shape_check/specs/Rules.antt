@@ -4,6 +4,7 @@ use Rattle.std.specs.Prelude.{ℕ, ◌-◌, ◌^◌, min, Bool, true, false, ◌
 use Rattle.std.specs.List.{flat_map, list_all, list_any, range_with_len}
 use Rattle.std.specs.Ordering.{int_eq}
 use Rattle.std.specs.Str.{bytes_eq}
+use Rattle.shapes_core.specs.Limits.{greatest_extent, greatest_size, greatest_work, most_words}
 use Rattle.shapes_core.specs.Shape.{span}
 use Rattle.moa_tree.specs.ShapeOf.{Shapes}
 
@@ -24,7 +25,7 @@ rule place number holds = if holds then [] else Failure.Rule place number ∷ []
 -- the greatest value that a limit allows, by its number: 2 axes, 3 an extent, 4 the span of a shape, 5 the size of a program, 6 its work,
 -- 7 the words of its areas
 abbrev pub greatest : ℕ → ℕ
-greatest which = slice_index (0 ∷ 0 ∷ 6 ∷ 16777216 ∷ 16777216 ∷ 1024 ∷ 2 ^ 40 ∷ 134217728 ∷ []) which
+greatest which = slice_index (0 ∷ 0 ∷ 6 ∷ greatest_extent ∷ greatest_extent ∷ greatest_size ∷ greatest_work ∷ most_words ∷ []) which
 
 -- the limit is exceeded where the value is more than it allows; a value of more than 64 bits is given as the greatest that has 64
 abbrev pub limit : Option Place → ℕ → ℕ → ℕ → List Failure

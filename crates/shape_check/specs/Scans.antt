@@ -9,20 +9,12 @@ use Rattle.moa_tree.specs.Pool.{walk_of}
 use Rattle.moa_tree.specs.Pools.{Pools}
 use Rattle.shape_check.specs.declared.inventory.Inventory.{Inventory}
 use Rattle.shape_check.specs.declared.progress.Progress.{Progress}
-use Rattle.shape_check.specs.declared.scans.Operands.{Operands}
-use Rattle.shape_check.specs.declared.scans.Operands.TheVariants as operand
 use Rattle.shape_check.specs.declared.scans.PoolScan.{PoolScan}
 use Rattle.shape_check.specs.declared.totals.Totals.{Totals}
 use Rattle.shape_check.specs.Costs.{Prices, element_work, nodes, shape_in}
 use Rattle.shape_check.specs.Uses.{HasShapes}
 use Rattle.shape_check.specs.Judged.{capped, node_tree}
 use Rattle.shape_check.specs.Layout.{numbered}
-
--- the operands of a node, in order
-abbrev pub listed : Operands → List ℕ
-listed operand.None = []
-listed (operand.One of) = of ∷ []
-listed (operand.Two left right) = left ∷ right ∷ []
 
 -- the scan that a node is, if it is one
 abbrev pub scan_of : Node → List PoolScan

@@ -13,7 +13,7 @@ use crate::layout::{Layout, array_words, place};
 use crate::progress::Progress;
 use crate::survey::survey;
 use moa_tree::Program;
-use shapes_core::{AreaKind, NoMemory, Shape};
+use shapes_core::{AreaKind, GREATEST_SIZE, GREATEST_WORK, MOST_WORDS, NoMemory, Shape};
 use std::alloc::Global;
 
 /// Refuses a value that is greater than a limit of the whole program.
@@ -51,8 +51,8 @@ fn limited(alloc: Global, program: Program, progress: Progress) -> Result<Checke
     ensures checked { IfOk result (λ checked. checked.pools ≡ program) }
     ensures refused { IfErr result (λ error. Explains program error) }
 {
-    within(5, 1024, progress.totals.size)?;
-    within(6, 1 << 40, progress.totals.work)?;
+    within(5, GREATEST_SIZE, progress.totals.size)?;
+    within(6, GREATEST_WORK, progress.totals.work)?;
     let Progress {
         names: _names,
         shapes,
@@ -64,7 +64,7 @@ fn limited(alloc: Global, program: Program, progress: Progress) -> Result<Checke
         totals,
     } = progress;
     let arrays = join(inputs, &outputs, &scans)?;
-    within(7, 134217728, array_words(&arrays))?;
+    within(7, MOST_WORDS, array_words(&arrays))?;
     let layout = Layout::new(place(alloc, &arrays)?);
     Ok(Checked::new(
         program,

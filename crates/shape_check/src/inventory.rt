@@ -1,6 +1,7 @@
 // How many areas of each kind a program has before its scans.
 ghost use Rattle.std.specs.Prelude.{◌≡◌, ◌≤◌, length};
 ghost use Rattle.std.specs.List.{sum_by};
+ghost use Rattle.shapes_core.specs.Limits.{most_items};
 ghost use Rattle.shape_check.specs.Judged.{items_in};
 ghost use Rattle.shape_check.specs.Jobs.{input_count, output_count};
 
@@ -17,8 +18,8 @@ pub(crate) struct Inventory {
 pub(crate) fn inventory_of(program: &Program) -> Inventory
     ensures inputs { result.inputs ≡ sum_by input_count (items_in program.now) }
     ensures outputs { result.outputs ≡ sum_by output_count (items_in program.now) }
-    ensures few { result.inputs ≤ 1073741824 }
-    ensures fewer { result.outputs ≤ 1073741824 }
+    ensures few { result.inputs ≤ most_items }
+    ensures fewer { result.outputs ≤ most_items }
 {
     let mut inputs = 0;
     let mut outputs = 0;

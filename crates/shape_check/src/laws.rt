@@ -2,13 +2,14 @@
 ghost use Rattle.std.specs.Int.{w64};
 ghost use Rattle.std.specs.List.{AllPairs, AllZip, Contains, fold, insert, list_all, remove};
 ghost use Rattle.std.specs.Prelude.{FitsSigned, ◌≡◌, ◌==◌, ◌||◌, ◌<◌, ◌≤◌, ℕ, ◌-◌, ◌^◌, true, false, not, Ok, ℤ, List, [], ◌∷◌, ◌++◌, All, drop, length, map, nat_le, nat_lt, reverse, slice_index, slice_set, take, unsigned_abs};
+ghost use Rattle.shapes_core.specs.Limits.{greatest_extent, greatest_size, greatest_work, most_words};
 ghost use Rattle.shapes_core.specs.declared.area.AreaKind.TheVariants as area;
 ghost use Rattle.shapes_core.specs.Gamma.{IsIndex, gamma, ungamma};
 ghost use Rattle.shapes_core.specs.Shape.{IsShape, total};
 ghost use Rattle.moa_tree.specs.declared.operator.Op.{Op as Operator};
 ghost use Rattle.moa_tree.specs.declared.operator.Unary.{Unary as UnaryOperator};
 ghost use Rattle.moa_tree.specs.Axes.{behind, but_last, common, each_extent, each_place, joined, mirrored, naturals, on_axis, own_index, remaining, remaining_from, restored, selected, taken, taken_from, turned};
-ghost use Rattle.moa_tree.specs.Denotation.{Store, after_all, denote_from, denote_scans_from, values};
+ghost use Rattle.moa_tree.specs.Denotation.{Store, env_after_all, denote_from, denote_scans_from, values};
 ghost use Rattle.moa_tree.specs.Expr.{Expr, Number, Use, Iota, One, Two, Psi, Take, Drop, Reverse, Rotate, Transpose, Permute, Cat, Reshape, Ravel, Outer, Inner, Reduce, Scan, Item, Input, Let, Output};
 ghost use Rattle.moa_tree.specs.ShapeOf.{Shapes, shape_of};
 ghost use Rattle.moa_tree.specs.Subexpressions.{subexpressions};
@@ -91,7 +92,7 @@ pub fn verdicts_are_shapes()
         → verdict_of (before ++ Output name of ∷ after) ≡ Ok shapes
         → (at : ℕ) → verdict (fold shapes_after [] before) at of ≡ Ok (shape_of (fold shapes_after [] before) of) }
     ensures limits { (items : List Item) (shapes : Shapes) → verdict_of items ≡ Ok shapes
-        → (size items ≤ 1024) × (work items ≤ 2 ^ 40) × (words items ≤ 134217728) }
+        → (size items ≤ greatest_size) × (work items ≤ greatest_work) × (words items ≤ most_words) }
 {}
 
 /// The operands of an accepted expression are accepted, wherever they stand, and their shapes keep the rules of its
@@ -100,7 +101,7 @@ pub fn operands_are_accepted()
     ensures uses { (shapes : Shapes) (at : ℕ) (name s : List ℕ) → verdict shapes at (Use name) ≡ Ok s
         → is_declared shapes name ≡ true }
     ensures iota { (shapes : Shapes) (at : ℕ) (extent : ℤ) (s : List ℕ) → verdict shapes at (Iota extent) ≡ Ok s
-        → (is_natural extent ≡ true) × (unsigned_abs extent ≤ 16777216) }
+        → (is_natural extent ≡ true) × (unsigned_abs extent ≤ greatest_extent) }
     ensures unary { (shapes : Shapes) (at other : ℕ) (op : UnaryOperator) (of : Expr) (s : List ℕ) → verdict shapes at (One op of) ≡ Ok s
         → verdict shapes other of ≡ Ok (shape_of shapes of) }
     ensures binary { (shapes : Shapes) (at other : ℕ) (op : Operator) (left right : Expr) (s : List ℕ) → verdict shapes at (Two op left right) ≡ Ok s
@@ -171,7 +172,7 @@ pub fn values_stay_within()
 /// output or of a scan, has as many elements as an array of its shape.
 pub fn lists_are_totals()
     ensures after { (inputs : Store) (env : Env) (items : List Item)
-        → shapes_of (after_all inputs env items) ≡ fold shapes_after (shapes_of env) items }
+        → shapes_of (env_after_all inputs env items) ≡ fold shapes_after (shapes_of env) items }
     ensures values { (env : Env) (expr : Expr) → length (values env expr) ≡ total (shape_in env expr) }
     ensures outputs { (inputs : Store) (env : Env) (items : List Item)
         → AllZip (λ output array. (array.0 ≡ area.Out output.0) × (length output.1 ≡ total array.1))

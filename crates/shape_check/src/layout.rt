@@ -1,5 +1,6 @@
 // How the block of a program is laid out.
 ghost use Rattle.std.specs.Prelude.{◌≡◌, ◌≤◌, length, IfOk};
+ghost use Rattle.shapes_core.specs.Limits.{most_words};
 ghost use Rattle.shape_check.specs.Blocks.{IsLayout, array_words, words_of};
 ghost use Rattle.shape_check.specs.Judged.{capped};
 ghost use Rattle.shape_check.specs.Layout.{placed};
@@ -9,7 +10,7 @@ use std::alloc::Global;
 use std::marker::Model;
 
 /// The areas of a block: inputs, outputs and scans, each in the order of declaration and one behind the other. Names
-/// differ, scans are numbered from 0, and there are at most 134217728 words.
+/// differ, scans are numbered from 0, and there are at most `MOST_WORDS` words.
 #[derive(Drop)]
 pub struct Layout {
     areas: Vec<Area>,
@@ -47,7 +48,7 @@ impl Layout {
     /// The words of all areas, each of 8 bytes.
     pub fn words(&self) -> u64
         ensures value { result ≡ words_of self.now }
-        ensures small { result ≤ 134217728 }
+        ensures small { result ≤ most_words }
     {
         words_of(self.areas())
     }
@@ -55,7 +56,7 @@ impl Layout {
 
 /// The words of areas.
 fn words_of(areas: &[Area]) -> u64
-    requires { words_of areas.now ≤ 134217728 }
+    requires { words_of areas.now ≤ most_words }
     ensures { result ≡ words_of areas.now }
 {
     let mut words = 0u64;
@@ -78,7 +79,7 @@ pub(crate) fn array_words(arrays: &[(AreaKind, Shape)]) -> u64
 
 /// The areas of arrays, one behind the other from word 0 on.
 pub(crate) fn place(alloc: Global, arrays: &[(AreaKind, Shape)]) -> Result<Vec<Area>, NoMemory>
-    requires { array_words arrays.now ≤ 134217728 }
+    requires { array_words arrays.now ≤ most_words }
     ensures { IfOk result (λ areas. areas.items ≡ placed 0 arrays.now) }
 {
     let mut areas = Vec::new(alloc);

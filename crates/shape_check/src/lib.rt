@@ -32,4 +32,3 @@ pub use checked::{Checked, layout_of};
 pub use checking::check;
 pub use error::CheckError;
 pub use layout::Layout;
-pub use moa_tree::Job;

@@ -1,19 +1,14 @@
 // The limits of a shape.
 ghost use Rattle.std.specs.Prelude.{◌≡◌, ◌-◌, ◌^◌, ℕ, [], false, nat_lt, Err, min};
 ghost use Rattle.std.specs.List.{find};
+ghost use Rattle.shapes_core.specs.Limits.{greatest_extent};
 ghost use Rattle.shapes_core.specs.Shape.{is_shape, span};
 ghost use Rattle.shape_check.specs.Broken.{IsShaped, failure_at};
 ghost use Rattle.shape_check.specs.Rules.{Place, shape_limits};
 ghost use Rattle.shape_check.specs.Verdict.{judged};
 
 use crate::broken::Broken;
-use shapes_core::Shape;
-
-/// The greatest number of axes.
-pub(crate) const MOST_AXES: usize = 6;
-
-/// The greatest extent, and the greatest span: the product of the extents with each 0 taken as 1.
-const GREATEST: u64 = 16777216;
+use shapes_core::{GREATEST_EXTENT, MOST_AXES, Shape};
 
 /// The shape with these extents, or the first limit that they exceed.
 pub(crate) fn limited(extents: &[u64]) -> Result<Shape, Broken>
@@ -41,9 +36,12 @@ fn exceeded(extents: &[u64]) -> Broken
 
 /// The first extent that is too large.
 fn first_beyond(extents: &[u64]) -> Option<u64>
-    ensures { result ≡ find (λ extent. nat_lt 16777216 extent) extents.now }
+    ensures { result ≡ find (λ extent. nat_lt greatest_extent extent) extents.now }
 {
-    extents.iter().copied().find(|extent| *extent > GREATEST)
+    extents
+        .iter()
+        .copied()
+        .find(|extent| *extent > GREATEST_EXTENT)
 }
 
 /// The span, or the greatest number of 64 bits where it is greater.

@@ -1,6 +1,7 @@
 // The rules of each operator and the shape that it makes.
 ghost use Rattle.std.specs.Prelude.{◌≡◌, ◌≤◌, ℕ, ◌-◌, ◌+◌, ◌==◌, ◌||◌, not, [], ◌∷◌, ◌++◌, drop, length, reverse, nat_le, slice_index, unsigned_abs};
 ghost use Rattle.std.specs.List.{list_all, remove};
+ghost use Rattle.shapes_core.specs.Limits.{greatest_extent};
 ghost use Rattle.shapes_core.specs.Shape.{total};
 ghost use Rattle.moa_tree.specs.Axes.{but_last, common, each_extent, joined, naturals, remaining, selected, taken};
 ghost use Rattle.shape_check.specs.Broken.{IsShaped};
@@ -11,14 +12,14 @@ use crate::entries::{
     are_natural, are_parts, are_places, capped_total, drop_extents, is_permutation, select_extents,
     take_extents, write_extents,
 };
-use crate::limits::{MOST_AXES, limited};
-use shapes_core::{Shape, total};
+use crate::limits::limited;
+use shapes_core::{MOST_AXES, Shape, total};
 
 /// The extents of a shape.
 fn extents(shape: &Shape) -> &[u64]
     ensures value { result.now ≡ shape.now }
     ensures few { length result.now ≤ 6 }
-    ensures small { (axis : ℕ) → slice_index result.now axis ≤ 16777216 }
+    ensures small { (axis : ℕ) → slice_index result.now axis ≤ greatest_extent }
 {
     shape.extents()
 }

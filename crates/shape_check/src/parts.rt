@@ -7,7 +7,7 @@ ghost use Rattle.moa_tree.specs.Subexpressions.{subexpressions};
 ghost use Rattle.shape_check.specs.Judged.{node_tree};
 ghost use Rattle.shape_check.specs.Operated.{HasParts, node_at};
 
-use moa_tree::{Node, Program, node_trees, parts_are_there, walks_in_order};
+use moa_tree::{Node, Operands, Program, node_trees, parts_are_there, walks_in_order};
 use shapes_core::Name;
 
 /// The name that a node stands for, or its operands.
@@ -55,22 +55,10 @@ pub(crate) fn parts_of(program: &Program, number: u32) -> Parts
 {
     match node_at(program, number) {
         Node::Use(name) => Parts::Name(name),
-        Node::Number(_) | Node::Iota(_) => Parts::None,
-        Node::One { of, .. }
-        | Node::Psi { of, .. }
-        | Node::Take { of, .. }
-        | Node::Drop { of, .. }
-        | Node::Reverse { of }
-        | Node::Rotate { of, .. }
-        | Node::Transpose { of }
-        | Node::Permute { of, .. }
-        | Node::Reshape { of, .. }
-        | Node::Ravel { of }
-        | Node::Reduce { of, .. }
-        | Node::Scan { of, .. } => Parts::One(of),
-        Node::Two { left, right, .. }
-        | Node::Cat { left, right }
-        | Node::Outer { left, right, .. }
-        | Node::Inner { left, right, .. } => Parts::Two(left, right),
+        node => match node.operands() {
+            Operands::None => Parts::None,
+            Operands::One(of) => Parts::One(of),
+            Operands::Two(left, right) => Parts::Two(left, right),
+        },
     }
 }

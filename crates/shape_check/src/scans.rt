@@ -1,12 +1,12 @@
 // The scans of an expression.
 ghost use Rattle.std.specs.Prelude.{◌≡◌, ◌<◌, ◌+◌, ◌++◌, [], All, length, map, slice_index_or, IfOk, OnOk};
 ghost use Rattle.std.specs.Option.{option_to_list};
-ghost use Rattle.moa_tree.specs.Pool.{operands, walk_of};
+ghost use Rattle.moa_tree.specs.Pool.{walk_of};
 ghost use Rattle.moa_tree.specs.Pools.{IsProgram};
 ghost use Rattle.shape_check.specs.Layout.{numbered};
-ghost use Rattle.shape_check.specs.Scans.{listed, numbered_jobs, scan_of, scans_at};
+ghost use Rattle.shape_check.specs.Scans.{numbered_jobs, scan_of, scans_at};
 
-use moa_tree::{Job, Node, Op, Program, parts_are_there, walks_in_order};
+use moa_tree::{Job, Node, Op, Operands, Program, parts_are_there, walks_in_order};
 use shapes_core::{AreaKind, NoMemory, Shape};
 use std::alloc::Global;
 
@@ -15,38 +15,6 @@ use std::alloc::Global;
 pub(crate) struct PoolScan {
     pub(crate) fold: Op,
     pub(crate) node: u32,
-}
-
-/// The nodes on which a node works.
-pub(crate) enum Operands {
-    None,
-    One(u32),
-    Two(u32, u32),
-}
-
-/// The nodes on which a node works, from the left.
-pub(crate) fn operands_of(node: &Node) -> Operands
-    ensures { listed result ≡ operands node.now }
-{
-    match node {
-        Node::Number(_) | Node::Use(_) | Node::Iota(_) => Operands::None,
-        Node::One { of, .. }
-        | Node::Psi { of, .. }
-        | Node::Take { of, .. }
-        | Node::Drop { of, .. }
-        | Node::Reverse { of }
-        | Node::Rotate { of, .. }
-        | Node::Transpose { of }
-        | Node::Permute { of, .. }
-        | Node::Reshape { of, .. }
-        | Node::Ravel { of }
-        | Node::Reduce { of, .. }
-        | Node::Scan { of, .. } => Operands::One(*of),
-        Node::Two { left, right, .. }
-        | Node::Cat { left, right }
-        | Node::Outer { left, right, .. }
-        | Node::Inner { left, right, .. } => Operands::Two(*left, *right),
-    }
 }
 
 /// The scan that a node is, if it is one.
@@ -86,7 +54,7 @@ pub(crate) fn find_scans(
     parts_are_there();
     let node = program.node(number);
     add_scan(found, &node)?;
-    match operands_of(&node) {
+    match node.operands() {
         Operands::None => Ok(()),
         Operands::One(of) => find_scans(program, found, of),
         Operands::Two(left, right) => {

@@ -1,6 +1,7 @@
 // The verdict on one statement, and what it adds.
 ghost use Rattle.std.specs.Prelude.{◌≡◌, ◌<◌, ◌≤◌, ◌+◌, ◌++◌, ◌==◌, ℕ, [], ◌∷◌, None, Some, false, true, length, map, slice_get, IfErr, IfOk, MatchResult, OnOk};
 ghost use Rattle.std.specs.List.{count_by, list_all};
+ghost use Rattle.shapes_core.specs.Limits.{most_items};
 ghost use Rattle.moa_tree.specs.declared.tree.Statement.TheVariants as declaration;
 ghost use Rattle.moa_tree.specs.Axes.{naturals};
 ghost use Rattle.moa_tree.specs.Expr.{Input, Let, Output};
@@ -25,14 +26,14 @@ use crate::error::CheckError;
 use crate::expression::judge;
 use crate::inventory::Inventory;
 use crate::known::Known;
-use crate::limits::{MOST_AXES, limited};
+use crate::limits::limited;
 use crate::names::Names;
 use crate::progress::Progress;
 use crate::scans::{find_scans, jobs_of_scans, push_scans};
 use crate::totals::{with_job, with_scans};
 use crate::uses::Counts;
 use moa_tree::{Job, Numbers, Program, Statement, node_trees, parts_are_there, walks_in_order};
-use shapes_core::{AreaKind, Name, NoMemory, Shape};
+use shapes_core::{AreaKind, MOST_AXES, Name, NoMemory, Shape};
 use std::alloc::Global;
 use text_tokens::Position;
 
@@ -323,6 +324,14 @@ fn output(
     Ok(())
 }
 
+/// The statement of this number.
+fn statement_at(program: &Program, count: usize) -> Statement
+    requires { count < length program.now.statements }
+    ensures { slice_get program.now.statements count ≡ Some result }
+{
+    program.statements()[count]
+}
+
 /// Goes on by one statement.
 pub(crate) fn statement(
     alloc: Global,
@@ -333,15 +342,15 @@ pub(crate) fn statement(
 ) -> Result<(), CheckError>
     requires program { IsProgram program.now }
     requires there { count < length program.now.statements }
-    requires few { inventory.inputs ≤ 1073741824 }
-    requires fewer { inventory.outputs ≤ 1073741824 }
+    requires few { inventory.inputs ≤ most_items }
+    requires fewer { inventory.outputs ≤ most_items }
     requires reached { Reached program.now inventory count progress.old }
     ensures reached { OnOk result (Reached program.now inventory (count + 1) progress.new) }
     ensures refused { IfErr result (λ error. Explains program.now error) }
 {
     walks_in_order();
     parts_are_there();
-    match program.statements()[count] {
+    match statement_at(program, count) {
         Statement::Input { name, extents, at } => input(program, progress, name, extents, at),
         Statement::Name { name, node, at } => {
             named(alloc, program, inventory, progress, name, node, at)

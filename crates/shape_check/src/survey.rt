@@ -1,5 +1,6 @@
 // The verdict on all statements of a program.
 ghost use Rattle.std.specs.Prelude.{◌≡◌, ◌≤◌, length, IfErr, IfOk, []};
+ghost use Rattle.shapes_core.specs.Limits.{most_items};
 ghost use Rattle.moa_tree.specs.Pools.{IsProgram};
 ghost use Rattle.shape_check.specs.Kept.{Explains};
 ghost use Rattle.shape_check.specs.Progress.{Reached, Surveyed};
@@ -56,8 +57,8 @@ fn go_over(
     mut progress: Progress,
 ) -> Result<Progress, CheckError>
     requires program { IsProgram program.now }
-    requires few { inventory.inputs ≤ 1073741824 }
-    requires fewer { inventory.outputs ≤ 1073741824 }
+    requires few { inventory.inputs ≤ most_items }
+    requires fewer { inventory.outputs ≤ most_items }
     requires reached { Reached program.now inventory 0 progress }
     ensures reached { IfOk result (λ found. Reached program.now inventory (length program.now.statements) found) }
     ensures refused { IfErr result (λ error. Explains program.now error) }

@@ -8,7 +8,7 @@ ghost use Rattle.shape_check.specs.Uses.{HasOperands, HasShapes, IsCapped, IsPri
 ghost use Rattle.shape_check.specs.Judged.{AreNames};
 
 use crate::names::Names;
-use moa_tree::{Node, Program, node_trees, parts_are_there, walks_in_order};
+use moa_tree::{Node, Operands, Program, node_trees, parts_are_there, walks_in_order};
 use shapes_core::{Name, Shape};
 
 /// The nodes of an expression, and its work for one element. Counts that are greater than the greatest number of 64
@@ -37,23 +37,15 @@ fn form_of(node: &Node) -> Form
     ensures operands { HasOperands result node.now }
 {
     match node {
-        Node::Number(_) | Node::Iota(_) | Node::Scan { .. } => Form::Stored,
         Node::Use(name) => Form::Use(*name),
-        Node::One { of, .. }
-        | Node::Psi { of, .. }
-        | Node::Take { of, .. }
-        | Node::Drop { of, .. }
-        | Node::Reverse { of }
-        | Node::Rotate { of, .. }
-        | Node::Transpose { of }
-        | Node::Permute { of, .. }
-        | Node::Reshape { of, .. }
-        | Node::Ravel { of } => Form::One(*of),
-        Node::Two { left, right, .. }
-        | Node::Cat { left, right }
-        | Node::Outer { left, right, .. } => { Form::Two(*left, *right) }
+        Node::Scan { .. } => Form::Stored,
         Node::Inner { left, right, .. } => Form::Inner(*left, *right),
         Node::Reduce { of, .. } => Form::Reduce(*of),
+        _ => match node.operands() {
+            Operands::None => Form::Stored,
+            Operands::One(of) => Form::One(of),
+            Operands::Two(left, right) => Form::Two(left, right),
+        },
     }
 }
 

@@ -1,3 +1,4 @@
+-- How long a name is.
 use Rattle.std.proofs.Common.{ℕ, ◌≤◌, List, [], ◌∷◌, length, arith}
 use Rattle.std.proofs.lemmas.Bool.Decides.{nat_tests}
 use Rattle.shapes_core.specs.Name.{IsName}

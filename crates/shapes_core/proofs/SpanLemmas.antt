@@ -1,3 +1,4 @@
+-- Totals and spans of extents: how they grow extent by extent, and when they are too large for a shape.
 use Rattle.std.proofs.Common.{◌≡◌, ℕ, zero, suc, ◌+◌, ◌*◌, ◌<◌, ◌≤◌, max, true, false, List, [], ◌∷◌, length, drop, get_or, sym, ap, ◌∙◌, arith}
 use Rattle.std.specs.Prelude.{nat_le, IsTrue}
 use Rattle.std.specs.List.{list_all}
@@ -6,6 +7,7 @@ use Rattle.std.proofs.lemmas.List.{at_drop_more}
 use Rattle.std.proofs.lemmas.List.Folds.{list_all_at}
 use Rattle.std.proofs.lemmas.Bool.Decides.{nat_tests}
 use Rattle.std.proofs.Math.ListN.{drop_of_length-le}
+use Rattle.shapes_core.specs.Limits.{greatest_extent}
 use Rattle.shapes_core.specs.Shape.{are_small, is_shape, span, total}
 
 -- no extent counts as less than 1 in a span
@@ -44,29 +46,29 @@ total_step so_far bound extents i h within =
     omega (arith, more, span_more so_far extents i h)
 
 -- what a shape says of its span
-pub span_within : (extents : List ℕ) → IsTrue (is_shape extents) → span extents ≤ 16777216
+pub span_within : (extents : List ℕ) → IsTrue (is_shape extents) → span extents ≤ greatest_extent
 span_within extents h = grind (arith, nat_tests)
 
 -- one extent too large makes no shape
-pub extent_beyond : (extents : List ℕ) (i : ℕ) → i < length extents → 16777216 < get_or extents i 0 → are_small extents ≡ false
+pub extent_beyond : (extents : List ℕ) (i : ℕ) → i < length extents → greatest_extent < get_or extents i 0 → are_small extents ≡ false
 extent_beyond extents i h large =
-    let test : list_all (λ extent. nat_le extent 16777216) extents ≡ false =
-    list_all_at (λ extent. nat_le extent 16777216) extents i 0 h (grind (arith, nat_tests)) in
+    let test : list_all (λ extent. nat_le extent greatest_extent) extents ≡ false =
+    list_all_at (λ extent. nat_le extent greatest_extent) extents i 0 h (grind (arith, nat_tests)) in
     grind (arith, nat_tests)
 
 -- a product that is too large with one more extent makes no shape
-pub span_beyond : (so_far : ℕ) (extents : List ℕ) (i : ℕ) → so_far * span (drop i extents) ≡ span extents → i < length extents → 16777216 < max (get_or extents i 0) 1 * so_far → are_small extents ≡ false
+pub span_beyond : (so_far : ℕ) (extents : List ℕ) (i : ℕ) → so_far * span (drop i extents) ≡ span extents → i < length extents → greatest_extent < max (get_or extents i 0) 1 * so_far → are_small extents ≡ false
 span_beyond so_far extents i e h large =
     let above : so_far * max (get_or extents i 0) 1 ≤ so_far * max (get_or extents i 0) 1 * span (drop (i + 1) extents) = span_above _ _ in
-    let beyond : 16777216 < span extents = omega (arith, span_more so_far extents i h) in
+    let beyond : greatest_extent < span extents = omega (arith, span_more so_far extents i h) in
     grind (arith, nat_tests)
 
 -- each extent has passed, and so the span is what was counted
-pub span_passed : (so_far : ℕ) (extents : List ℕ) (i : ℕ) → length extents ≤ i → so_far * span (drop i extents) ≡ span extents → so_far ≤ 16777216 → list_all (λ extent. nat_le extent 16777216) (drop i extents) ≡ list_all (λ extent. nat_le extent 16777216) extents → are_small extents ≡ true
+pub span_passed : (so_far : ℕ) (extents : List ℕ) (i : ℕ) → length extents ≤ i → so_far * span (drop i extents) ≡ span extents → so_far ≤ greatest_extent → list_all (λ extent. nat_le extent greatest_extent) (drop i extents) ≡ list_all (λ extent. nat_le extent greatest_extent) extents → are_small extents ≡ true
 span_passed so_far extents i h e within all =
     let ended = drop_of_length-le extents h in
     let one : so_far * span [] ≡ span extents = rw ended at e in
-    let none : true ≡ list_all (λ extent. nat_le extent 16777216) extents = rw ended at all in
+    let none : true ≡ list_all (λ extent. nat_le extent greatest_extent) extents = rw ended at all in
     grind (arith, nat_tests)
 
 -- a product so far that keeps what it comes to is within the span
@@ -85,5 +87,5 @@ span_drop (suc n) (extent ∷ extents) =
     omega (arith, more, span_drop n extents)
 
 -- what a shape says of its total
-pub total_within : (extents : List ℕ) → IsTrue (is_shape extents) → total extents ≤ 16777216
+pub total_within : (extents : List ℕ) → IsTrue (is_shape extents) → total extents ≤ greatest_extent
 total_within extents h = omega (arith, span_within extents h, total_least extents)

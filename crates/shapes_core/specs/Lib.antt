@@ -1,4 +1,5 @@
 pub mod Gamma
+pub mod Limits
 pub mod Name
 pub mod Padded
 pub mod Shape

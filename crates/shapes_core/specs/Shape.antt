@@ -2,6 +2,7 @@
 use Rattle.std.specs.Prelude.{ℕ, ◌*◌, max, Bool, ◌&&◌, nat_eq, nat_le, IsTrue, List, [], ◌∷◌, length, drop}
 use Rattle.std.specs.List.{list_all}
 use Rattle.std.specs.Cmp.Lexicographic.{pointwise}
+use Rattle.shapes_core.specs.Limits.{greatest_extent, most_axes}
 
 -- how many elements an array of this shape has: the product of its extents, and 1 for a scalar
 abbrev pub total : List ℕ → ℕ
@@ -13,19 +14,11 @@ abbrev pub span : List ℕ → ℕ
 span [] = 1
 span (extent ∷ extents) = max extent 1 * span extents
 
--- the greatest extent, and the greatest span
-abbrev pub greatest_extent : ℕ
-greatest_extent = 16777216
-
--- the greatest number of axes
-abbrev pub most_axes : ℕ
-most_axes = 6
-
--- each extent is at most 16777216, and so is the span
+-- each extent is small, and so is the span
 abbrev pub are_small : List ℕ → Bool
 are_small extents = list_all (λ extent. nat_le extent greatest_extent) extents && nat_le (span extents) greatest_extent
 
--- at most 6 small extents
+-- a shape: few small extents
 abbrev pub is_shape : List ℕ → Bool
 is_shape extents = nat_le (length extents) most_axes && are_small extents
 

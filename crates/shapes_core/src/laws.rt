@@ -1,9 +1,10 @@
 // Laws of the definitions, for every proof that stands on them: no body runs.
-ghost use Rattle.std.specs.Prelude.{◌≡◌, ◌↔◌, IsTrue, ℕ, ◌+◌, ◌*◌, ◌<◌, ◌≤◌, List, [], ◌∷◌, ◌++◌, length, slice_index_or};
+ghost use Rattle.std.specs.Prelude.{◌≡◌, ◌↔◌, IsTrue, ℕ, ◌+◌, ◌*◌, ◌<◌, ◌≤◌, List, [], ◌∷◌, ◌++◌, drop, length, replicate, slice_index_or};
 ghost use Rattle.std.specs.List.{AllByRecursion};
 ghost use Rattle.std.specs.Str.{bytes_eq};
 ghost use Rattle.shapes_core.specs.Gamma.{IsIndex, digit, digits, gamma, rows, ungamma, weight};
 ghost use Rattle.shapes_core.specs.Name.{IsName};
+ghost use Rattle.shapes_core.specs.Padded.{IsPadded};
 ghost use Rattle.shapes_core.specs.Shape.{span, total};
 
 /// Gamma goes by the last axis, as Mullin defines it, and numbers the elements of an array: each index
@@ -57,4 +58,10 @@ pub fn equality_is_exact()
 /// A name has at most 64 bytes.
 pub fn names_are_short()
     ensures { (name : List ℕ) → IsName name → length name ≤ 64 }
+{}
+
+/// A list that is copied to the front of an array of one item is padded with this item.
+pub fn copies_are_padded<T>()
+    ensures { (other : T) (size : ℕ) (list copied : List T) → copied ≡ list → length list ≤ size
+        → IsPadded other size (copied ++ drop (length list) (replicate size other)) (length list) }
 {}

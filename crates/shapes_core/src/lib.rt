@@ -6,14 +6,20 @@
 
 mod area;
 pub mod laws;
+mod limits;
 mod name;
+mod no_memory;
 mod offset;
 mod shape;
 pub mod shape_examples;
 #[cfg(test)]
 mod tests;
 
-pub use area::{Area, AreaKind, Declared, NoMemory};
+pub use area::{Area, AreaKind, Declared};
+pub use limits::{
+    GREATEST_EXTENT, GREATEST_SIZE, GREATEST_WORK, MOST_AXES, MOST_ITEMS, MOST_WORDS,
+};
 pub use name::Name;
+pub use no_memory::NoMemory;
 pub use offset::{digit, gamma, weight};
 pub use shape::{Shape, same_tail, total};

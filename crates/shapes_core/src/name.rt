@@ -32,9 +32,9 @@ impl Model for Name {
 
     ghost view = { λ n. take n.len n.bytes };
 
-    ghost invariant = { λ n. IsPadded 64 n.bytes n.len × IsName (take n.len n.bytes) };
+    ghost invariant = { λ n. IsPadded 0 64 n.bytes n.len × IsName (take n.len n.bytes) };
 
-    ghost inverse = { λ list. record { bytes = padded 64 list; len = length list } };
+    ghost inverse = { λ list. record { bytes = padded 0 64 list; len = length list } };
 
     ghost inverse_ok = { λ n h i. record { bytes = h.0.filled i; len = h.0.counted i } };
 }

@@ -1,5 +1,6 @@
 // Offsets in row-major order, and their digits.
 ghost use Rattle.std.specs.Prelude.{◌≡◌, ◌<◌, ◌≤◌, suc, length, drop};
+ghost use Rattle.shapes_core.specs.Limits.{greatest_extent};
 ghost use Rattle.shapes_core.specs.Gamma.{IsIndex, digit, gamma, weight};
 ghost use Rattle.shapes_core.specs.Shape.{IsShape, span, total};
 
@@ -11,7 +12,7 @@ pub fn weight(shape: &Shape, axis: usize) -> u64
     requires { axis < length shape.now }
     ensures value { result ≡ weight shape.now axis }
     ensures positive { 0 < result }
-    ensures small { result ≤ 16777216 }
+    ensures small { result ≤ greatest_extent }
 {
     span(behind(shape, axis))
 }
@@ -27,10 +28,10 @@ fn behind(shape: &Shape, axis: usize) -> &[u64]
 
 #[tactic(auto, using(crate::proofs::SpanLemmas::span_pos))]
 fn span(extents: &[u64]) -> u64
-    requires { span extents.now ≤ 16777216 }
+    requires { span extents.now ≤ greatest_extent }
     ensures value { result ≡ span extents.now }
     ensures positive { 0 < result }
-    ensures small { result ≤ 16777216 }
+    ensures small { result ≤ greatest_extent }
 {
     let mut span = 1;
     for extent in extents {

@@ -2,21 +2,18 @@
 ghost use Rattle.std.specs.Prelude.{◌≡◌, ◌↔◌, IsSome, IfSome, ◌≤◌, ◌<◌, length, nat_eq};
 ghost use Rattle.std.specs.Cmp.{partial_equiv_from_equiv};
 ghost use Rattle.std.specs.Cmp.Lexicographic.{nat_list_eq_equiv, pointwise};
+ghost use Rattle.shapes_core.specs.Limits.{greatest_extent};
 ghost use Rattle.shapes_core.specs.Shape.{IsShape, are_small, same_tail, total};
 
+use crate::limits::{GREATEST_EXTENT, MOST_AXES};
 use std::marker::Model;
 
-/// The greatest number of axes.
-const MOST_AXES: usize = 6;
-
-/// The greatest extent, and the greatest span: the product of the extents with each 0 taken as 1.
-const GREATEST: u64 = 16777216;
-
-/// The shape of an array: at most 6 extents, of which each, and their span, is at most 16777216.
+/// The shape of an array: at most `MOST_AXES` extents, of which each, and their span, is at most
+/// `GREATEST_EXTENT`.
 /// A scalar has no extent. Two shapes are equal where their lists of extents are.
 #[derive(Clone, Copy, Debug)]
 pub struct Shape {
-    extents: [u64; 6],
+    extents: [u64; MOST_AXES],
     axes: usize,
 }
 
@@ -29,9 +26,9 @@ impl Model for Shape {
 
     ghost view = { λ s. take s.axes s.extents };
 
-    ghost invariant = { λ s. IsPadded 6 s.extents s.axes × IsShape (take s.axes s.extents) };
+    ghost invariant = { λ s. IsPadded 0 6 s.extents s.axes × IsShape (take s.axes s.extents) };
 
-    ghost inverse = { λ list. record { extents = padded 6 list; axes = length list } };
+    ghost inverse = { λ list. record { extents = padded 0 6 list; axes = length list } };
 
     ghost inverse_ok = { λ n h i. record { extents = h.0.filled i; axes = h.0.counted i } };
 }
@@ -76,17 +73,17 @@ impl Eq for Shape {
     ghost laws = { nat_list_eq_equiv };
 }
 
-/// Whether each extent, and the span, is within `GREATEST`.
+/// Whether each extent, and the span, is within `GREATEST_EXTENT`.
 fn are_small(extents: &[u64]) -> bool
     ensures { result ≡ are_small extents.now }
 {
     let mut span = 1;
     for extent in extents {
-        if *extent > GREATEST {
+        if *extent > GREATEST_EXTENT {
             return false;
         }
         let factor = (*extent).max(1);
-        if factor * span > GREATEST {
+        if factor * span > GREATEST_EXTENT {
             return false;
         }
         span *= factor;
@@ -97,7 +94,7 @@ fn are_small(extents: &[u64]) -> bool
 /// How many elements an array of the shape has: 1 for a scalar.
 pub fn total(shape: &Shape) -> u64
     ensures value { result ≡ total shape.now }
-    ensures small { result ≤ 16777216 }
+    ensures small { result ≤ greatest_extent }
 {
     let mut total = 1;
     for extent in shape.extents() {

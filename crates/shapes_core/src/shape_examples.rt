@@ -1,8 +1,9 @@
 // Shapes, names and offsets that are worked out from the definitions: no body runs.
 ghost use Rattle.std.specs.Prelude.{◌≡◌, true, false, [], ◌∷◌, codes, map, replicate};
+ghost use Rattle.shapes_core.specs.Limits.{greatest_extent, most_axes};
 ghost use Rattle.shapes_core.specs.Gamma.{IsIndex, digit, digits, gamma, rows, ungamma, weight};
 ghost use Rattle.shapes_core.specs.Name.{is_name};
-ghost use Rattle.shapes_core.specs.Shape.{greatest_extent, is_shape, most_axes, same_tail, span, total};
+ghost use Rattle.shapes_core.specs.Shape.{is_shape, same_tail, span, total};
 
 /// Names, and words that are none.
 pub fn names()

@@ -1,4 +1,5 @@
 pub mod ConversionLemmas
 pub mod MeaningLemmas
 pub mod PlaceLemmas
+mod PoolLemmas
 pub mod StrideLemmas

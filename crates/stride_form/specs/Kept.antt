@@ -3,7 +3,8 @@ use Rattle.std.specs.Prelude.{◌≡◌, ◌≢◌, ℕ, ◌+◌, ◌-◌, ◌^�
 use Rattle.std.specs.List.{AllByRecursion, Contains}
 use Rattle.std.specs.declared.option.Option.{Option}
 use Rattle.std.specs.declared.option.Option.TheVariants.{None, Some}
-use Rattle.shapes_core.specs.Shape.{IsShape, greatest_extent, total}
+use Rattle.shapes_core.specs.Limits.{greatest_extent, most_items}
+use Rattle.shapes_core.specs.Shape.{IsShape, total}
 use Rattle.moa_tree.specs.declared.tree.Job.{Job}
 use Rattle.normal_form.specs.Assignments.{assigned}
 use Rattle.normal_form.specs.Forms.{Lit, Index, Get, Un, Bin, Case, Fold, Let}
@@ -58,7 +59,7 @@ pub record IsOperational (parts : OpParts) : Type 0 where
   pub box : IsBox parts.region parts.shape
   pub folds : IsFoldJob parts.job.fold parts.shape
   pub there : 0 < length parts.terms
-  pub few : length parts.terms ≤ 2 ^ 30
+  pub few : length parts.terms ≤ most_items
   pub ordered : AreOpOrdered 0 parts.terms
   pub kept : IsOpKept parts.job.area (job_variables parts.shape) (top_op_form parts.terms)
   pub fine : (index : List ℕ) → IsInBox index parts.region → Reached IsFineAccess (assigned index) (top_op_form parts.terms)

@@ -1,5 +1,6 @@
 -- Terms of operational forms, and the tree for which a pool of them stands. This project's own.
-use Rattle.std.specs.Prelude.{ℕ, pos, List, [], ◌∷◌, ◌++◌, slice_index_or}
+use Rattle.std.specs.Prelude.{◌≡◌, ◌<◌, ℕ, pos, List, [], ◌∷◌, ◌++◌, slice_index_or}
+use Rattle.std.specs.List.{AllByRecursion}
 use Rattle.normal_form.specs.declared.term.Term.{Term}
 use Rattle.normal_form.specs.declared.term.Term.TheVariants as term
 use Rattle.normal_form.specs.Forms.{Lit, Index, Get, Un, Bin, Case, Fold, Let}
@@ -52,3 +53,8 @@ op_operands (op.Bin operator left right) = left ∷ right ∷ []
 op_operands (op.Case entry below first second) = first ∷ second ∷ []
 op_operands (op.Fold operator var low high of) = of ∷ []
 op_operands (op.Let var bind of) = of ∷ []
+
+-- a term of a pool: what it stands for is its operator over what its operands stand for, which stand before it
+pub record IsOverOperands (terms : List OpTerm) (number : ℕ) (of : OpTerm) : Type 0 where
+  pub form : op_form_at (op_forms terms) number ≡ op_form_of (op_forms terms) of
+  pub before : AllByRecursion (λ operand. operand < number) (op_operands of)

@@ -1,4 +1,4 @@
--- What parts of a text are made of.
+-- What parts of a text are made of. This project's own.
 use Rattle.std.specs.Prelude.{ℕ, Bool}
 use Rattle.shapes_core.specs.Name.{is_digit, is_name_byte}
 use Rattle.text_tokens.specs.declared.bytes.Kind.{Kind}

@@ -1,4 +1,4 @@
-use Rattle.array_text.proofs.ReadBack.{read_back}
+use Rattle.array_text.proofs.ReadBackLemmas.{read_back}
 use Rattle.array_text.proofs.laws.printed_arrays_read_back.Goals as goal
 
 pub returns : goal.returns

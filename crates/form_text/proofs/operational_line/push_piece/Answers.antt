@@ -10,7 +10,8 @@ returns-in_ok-push_op_head-in-Of-clause-put c =
     let spelled = access_text c.args.areas.now in
     on_ok_weaker c.push_after.result
     (λ e whole h. put-so spelled (op_forms c.args.form.now.terms) c.args.waiting.now.items c.push_after.new.waiting.items c.args.piece
-    (op-term-made spelled c.args.form.now.terms c.requires.ordered c.in-Of.number c.term-term.result c.term-term.ensures _ c.op_operands.ensures)
+    (op-term-made spelled c.args.form.now.terms c.in-Of.number c.term-term.result
+    (c.terms_are_over_operands.ensures _ _ _ c.requires.ordered c.term-term.ensures) c.term-term.ensures _ c.op_operands.ensures)
     c.in-Of.is c.in_ok-push_op_head-in-Of.ensures e h)
     c.push_after.ensures
 
@@ -19,6 +20,7 @@ returns-in_ok-push_op_head-in-Of-clause-less c =
     let spelled = access_text c.args.areas.now in
     on_ok_weaker c.push_after.result
     (λ e. less-so spelled (op_forms c.args.form.now.terms) c.args.waiting.now.items c.push_after.new.waiting.items c.args.piece
-    (op-term-made spelled c.args.form.now.terms c.requires.ordered c.in-Of.number c.term-term.result c.term-term.ensures _ c.op_operands.ensures)
+    (op-term-made spelled c.args.form.now.terms c.in-Of.number c.term-term.result
+    (c.terms_are_over_operands.ensures _ _ _ c.requires.ordered c.term-term.ensures) c.term-term.ensures _ c.op_operands.ensures)
     c.in-Of.is e)
     c.push_after.ensures

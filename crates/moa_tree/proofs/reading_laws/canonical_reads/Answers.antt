@@ -1,4 +1,4 @@
-use Rattle.moa_tree.proofs.Printed.{canonical_reads}
+use Rattle.moa_tree.proofs.PrintedLemmas.{canonical_reads}
 use Rattle.moa_tree.proofs.reading_laws.canonical_reads.Goals as goal
 
 pub returns : goal.returns

@@ -1,6 +1,6 @@
-use Rattle.moa_tree.proofs.Behind.{accepted, expr_begins, expr_wanted, is_front, wants_cause}
-use Rattle.moa_tree.proofs.Causes.{cause_wanted}
-use Rattle.moa_tree.proofs.Wanted.{after_program, no_front}
+use Rattle.moa_tree.proofs.BehindLemmas.{accepted, expr_begins, expr_wanted, is_front, wants_cause}
+use Rattle.moa_tree.proofs.CauseLemmas.{cause_wanted}
+use Rattle.moa_tree.proofs.WantedLemmas.{after_program, no_front}
 use Rattle.moa_tree.proofs.reading_laws.fronts.Goals as goal
 
 pub returns-clause-read : goal.returns-clause-read

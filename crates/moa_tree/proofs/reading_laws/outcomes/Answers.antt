@@ -1,5 +1,5 @@
 use Rattle.std.proofs.Common.{subst}
-use Rattle.moa_tree.proofs.Decided.{Says, read_computed, refused_computed, says}
+use Rattle.moa_tree.proofs.DecidedLemmas.{Says, read_computed, refused_computed, says}
 use Rattle.moa_tree.proofs.reading_laws.outcomes.Goals as goal
 
 pub returns-clause-read : goal.returns-clause-read

@@ -1,4 +1,4 @@
-use Rattle.moa_tree.proofs.Reprinted.{read_writes}
+use Rattle.moa_tree.proofs.ReprintedLemmas.{read_writes}
 use Rattle.moa_tree.proofs.reading_laws.reads_again.Goals as goal
 
 pub returns-clause-writable : goal.returns-clause-writable

@@ -1,4 +1,4 @@
-use Rattle.moa_tree.proofs.SmallProgram.{small_is_program}
+use Rattle.moa_tree.proofs.SmallProgramLemmas.{small_is_program}
 use Rattle.moa_tree.proofs.tests.a_program_gives_its_parts.Goals as goal
 
 -- src/tests.rt:33:19

@@ -1,6 +1,6 @@
 use Rattle.std.specs.Prelude.{◌≡◌, ◌≤◌}
 use Rattle.std.proofs.Common.{arith}
-use Rattle.moa_tree.proofs.SmallProgram.{small_is_program}
+use Rattle.moa_tree.proofs.SmallProgramLemmas.{small_is_program}
 use Rattle.moa_tree.proofs.tree_examples.program_pools.Goals as goal
 
 pub returns-clause-small_program : goal.returns-clause-small_program

@@ -4,5 +4,5 @@ use Rattle.nest_build.proofs.numbers.push_access.Goals as goal
 
 pub returns : goal.returns
 returns c access made =
-    let e = access-made _ c.requires.ordered _ _ _ c.term.ensures c.in-Get.is access made in
+    let e = access-made _ _ _ _ (c.terms_are_over_operands.ensures _ _ _ c.requires.ordered c.term.ensures) c.in-Get.is access made in
     c.in_ok-push.ensures.items ∙ ap (λ a. c.args.out.now.items ++ a ∷ []) e

@@ -3,7 +3,7 @@ use Rattle.nest_jobs.proofs.laws.forms_are_buildable.Goals as goal
 
 pub returns : goal.returns
 returns c = λ inputs items shapes number tree_job array form accepted built plain job at made.
-    form-buildable c.places_are_offsets.ensures.offset c.places_are_offsets.ensures.below
+    form-buildable c.block_laws.ensures c.places_are_offsets.ensures.offset c.places_are_offsets.ensures.below
     (λ shape. (c.span_laws.ensures.no_extent_0 shape).0)
     inputs items shapes number tree_job array form plain
     (c.plain_forms_are_straight.ensures items number form plain made)

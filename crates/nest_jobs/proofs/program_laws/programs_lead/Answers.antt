@@ -17,10 +17,10 @@ returns c = λ inputs items shapes state accepted built plain sized held.
       of_ungamma = c.gamma_laws.ensures.of_ungamma;
       below = c.gamma_laws.ensures.below;
     } in
-    program-leads meant inputs items nested plain
+    program-leads meant c.block_laws.ensures inputs items nested plain
     (all-shapes items shapes (c.verdicts_are_shapes.ensures.after items shapes accepted)
     (c.verdicts_are_shapes.ensures.each_within items shapes accepted))
     (c.jobs_give.ensures inputs items shapes accepted)
     (λ number tree_job array form job at made.
     c.forms_are_buildable.ensures inputs items shapes number tree_job array form accepted built plain job at made)
-    (c.areas_are_laid_out.ensures items shapes accepted) state sized held
+    (c.areas_are_laid_out.ensures items) state sized held

@@ -16,11 +16,11 @@ use Rattle.rv_line.specs.declared.line.Line.{Line}
 use Rattle.rv_steps.specs.Good.{IsStart}
 use Rattle.rv_steps.specs.Machine.{Config}
 use Rattle.psi_compile.specs.Assigned.{AreAssigned}
-use Rattle.psi_compile.proofs.ServeInputs.{differ-pairs, inputs-held}
+use Rattle.psi_compile.proofs.ServeInputLemmas.{differ-pairs, inputs-held}
 use Rattle.psi_compile.proofs.ServeLemmas.{after_all, all-built, exact-steps, inputs, nests-low, ok-shapes, opening, performed, serves}
 use Rattle.psi_compile.proofs.ServeLemmas.{words-long}
-use Rattle.psi_compile.proofs.ServeOperators.{base-nests, steady-nests}
-use Rattle.psi_compile.proofs.ServeSources.{takes-operators}
+use Rattle.psi_compile.proofs.ServeOperatorLemmas.{base-nests, steady-nests}
+use Rattle.psi_compile.proofs.ServeSourceLemmas.{takes-operators}
 use Rattle.psi_compile.proofs.serve_laws.programs_serve.Goals as goal
 
 -- the nests of a program lead to what it denotes
@@ -31,7 +31,7 @@ led : goal.After-verdicts_are_shapes → (text : List ℕ) (tree : Tree) (header
 led c text tree header lines base d read accepted plain =
     let items = tree.statements in
     let known = ok-shapes (verdict_of items) accepted in
-    let laid = c.areas_are_laid_out.ensures items known.0 known.1 in
+    let laid = c.areas_are_laid_out.ensures items in
     let differ = differ-pairs _ (c.verdicts_are_shapes.ensures.differ items known.0 known.1) in
     c.programs_lead.ensures (inputs items header lines base d) items known.0 (opening items header lines base d) known.1
     (all-built tree.version items (c.reads_again.ensures.writable text tree read).0) plain (words-long items header lines base d)
@@ -65,7 +65,7 @@ runs c text tree homes header lines base d read accepted plain assigned spilled 
       size,
     ) in
     performed items header lines base d homes assigned c.programs_are_performed.ensures c.bytes_are_kept.ensures.word start
-    (c.areas_are_laid_out.ensures items known.0 known.1) ready small few same (led c text tree header lines base d read accepted plain)
+    (c.areas_are_laid_out.ensures items) ready small few same (led c text tree header lines base d read accepted plain)
 
 pub returns-clause-serves : goal.returns-clause-serves
 returns-clause-serves c = λ text tree homes header lines base d read accepted plain assigned spilled printed same start.
@@ -73,7 +73,7 @@ returns-clause-serves c = λ text tree homes header lines base d read accepted p
     let homed = zip (nests items) homes in
     let known = ok-shapes (verdict_of items) accepted in
     serves tree header lines base (program header.spill homed 0).steps (are_steady homed) d start
-    (c.areas_are_laid_out.ensures items known.0 known.1) printed
+    (c.areas_are_laid_out.ensures items) printed
     (led c text tree header lines base d read accepted plain) (nests-low items header lines base d c.nests_write_their_own.ensures)
     (runs c text tree homes header lines base d read accepted plain assigned spilled same start)
 

@@ -1,4 +1,4 @@
-use Rattle.std.specs.Prelude.{◌<◌, ◌+◌, ◌++◌, ◌∷◌, [], pos, length, OnOk}
+use Rattle.std.specs.Prelude.{◌<◌, ◌++◌, ◌∷◌, [], pos, length, OnOk}
 use Rattle.std.proofs.Common.{sym, subst, arith, get_or}
 use Rattle.std.proofs.lemmas.List.{take_all}
 use Rattle.std.proofs.lemmas.Result.{on_ok_weaker}
@@ -6,7 +6,7 @@ use Rattle.loop_ir.specs.declared.step.Step.TheVariants as step
 use Rattle.loop_ir.specs.Pool.{inner_lists, steps_of, tree_at, trees_from}
 use Rattle.register_map.specs.Codes.{Weighs, codes_of}
 use Rattle.register_map.proofs.DepthLemmas.{ahead-falls}
-use Rattle.register_map.proofs.TreeLemmas.{all-weaker, behind-at, inner-at, tree-of}
+use Rattle.register_map.proofs.TreeLemmas.{all-weaker, inner-at}
 use Rattle.register_map.proofs.WeightLemmas.{choice-weighs, steps-more}
 use Rattle.register_map.proofs.weights.+mentions.Goals as goal
 
@@ -14,11 +14,11 @@ pub weigh_list-weigh_step-requires : goal.weigh_list-weigh_step-requires
 weigh_list-weigh_step-requires t c =
     let lists = c.args.nest.now in
     let items = c.list-step-items.result.now in
-    let named = behind-at 0 (length lists) lists c.args.number items c.list-step-items.ensures.list c.list-step-items.ensures.kept.behind in
+    let named = c.lists_in_order.ensures.greater lists c.args.number items c.list-step-items.ensures.kept c.list-step-items.ensures.list in
     let of = get_or items c.loop-step.step-index (step.Set 0 (pos 0)) in
-    let inner = inner-at (λ inner. (0 + c.args.number < inner) × (inner < length lists)) items c.loop-step.step-index (step.Set 0 (pos 0))
+    let inner = inner-at (λ inner. (c.args.number < inner) × (inner < length lists)) items c.loop-step.step-index (step.Set 0 (pos 0))
     c.loop-step-test.true named in
-    let falls = ahead-falls c.args.number (length lists) of c.requires (all-weaker (λ inner h. (omega (arith, h.0), h.1)) (inner_lists of) inner) in
+    let falls = ahead-falls c.args.number (length lists) of c.requires inner in
     (omega (arith, falls, c.decreases), all-weaker (λ inner h. h.1) (inner_lists of) inner)
 
 pub weigh_list-loop-step-preserved : goal.weigh_list-loop-step-preserved
@@ -33,7 +33,7 @@ weigh_list-returns t c =
     let old = c.args.weights.now.entries in
     let now = c.loop-step.weights.entries in
     let all = take_all c.loop-step.step-index items c.loop-step-test.false in
-    let same = tree-of lists c.args.number items c.list-step-items.ensures.list c.list-step-items.ensures.kept.behind in
+    let same = c.lists_in_order.ensures.trees lists c.args.number items c.list-step-items.ensures.kept c.list-step-items.ensures.list in
     subst (λ tree. Weighs (codes_of tree) old now) (sym same)
     (subst (λ list. Weighs (codes_of (steps_of (tree_at (trees_from 0 lists)) list)) old now) all c.loop-step.invariant)
 

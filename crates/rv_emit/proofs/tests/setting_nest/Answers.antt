@@ -5,7 +5,7 @@ use Rattle.std.proofs.lemmas.Result.{IfOk-weaker}
 use Rattle.loop_ir.specs.declared.step.Step.TheVariants as step
 use Rattle.loop_ir.specs.Kept.{KeepsCounters}
 use Rattle.loop_ir.specs.Pool.{inner_lists, tree, tree_at, trees}
-use Rattle.rv_emit.specs.TestNests.{IsSmall, settings}
+use Rattle.rv_emit.specs.TestNests.{IsSmallNest, settings}
 use Rattle.rv_emit.proofs.TestLemmas.{next-setting, setting-counters, setting-lists, settings-are-small}
 use Rattle.rv_emit.proofs.tests.setting_nest.Goals as goal
 
@@ -33,8 +33,8 @@ returns c =
     c.in_ok-add.ensures.added.1 ∙ ap (λ lists. lists ++ c.loop-number.whole.items ∷ []) c.new-lists.ensures
     ∙ ap (λ list. list ∷ []) c.loop-number.invariant in
     let few : c.loop-number.number ≤ 10000 = omega (arith, c.requires, c.loop-number.auto.number-end) in
-    let small = subst (λ lists. IsSmall (tree_at (trees lists) (length lists - 1))) (sym lists)
+    let small = subst (λ lists. IsSmallNest (tree_at (trees lists) (length lists - 1))) (sym lists)
     (settings-are-small (tree_at []) c.loop-number.number few) in
     IfOk-weaker c.into_nest.result (λ nest. tree nest ≡ tree_at (trees c.add.new.self) (length
-    c.add.new.self - 1)) (λ nest. IsSmall (tree nest))
-    (λ nest e. subst IsSmall (sym e) small) c.into_nest.ensures.tree
+    c.add.new.self - 1)) (λ nest. IsSmallNest (tree nest))
+    (λ nest e. subst IsSmallNest (sym e) small) c.into_nest.ensures.tree

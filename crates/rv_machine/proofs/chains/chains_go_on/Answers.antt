@@ -1,4 +1,4 @@
-use Rattle.rv_machine.proofs.Walks.{reaches_none, reaches_one, stops_off}
+use Rattle.rv_machine.proofs.WalkLemmas.{reaches_none, reaches_one, stops_off}
 use Rattle.rv_machine.proofs.chains.chains_go_on.Goals as goal
 use Rattle.std.proofs.Common.{◌∙◌}
 

@@ -1,7 +1,7 @@
 use Rattle.std.proofs.Common.{◌+◌}
 use Rattle.rv_steps.specs.Stops.{run}
 use Rattle.rv_machine.specs.Budgets.{end_after}
-use Rattle.rv_machine.proofs.Budgets.{stops_after}
+use Rattle.rv_machine.proofs.BudgetLemmas.{stops_after}
 use Rattle.rv_machine.proofs.laws.budgets_add.Goals as goal
 
 pub returns : goal.returns

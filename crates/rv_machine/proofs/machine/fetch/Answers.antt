@@ -1,4 +1,4 @@
-use Rattle.rv_machine.proofs.Walks.{fits_at}
+use Rattle.rv_machine.proofs.WalkLemmas.{fits_at}
 use Rattle.rv_machine.proofs.machine.fetch.Goals as goal
 
 pub returns-clause-fits : goal.returns-clause-fits

@@ -2,7 +2,8 @@ use Rattle.std.specs.Prelude.{◌==◌}
 use Rattle.std.proofs.Common.{◌≡◌, ◌<◌, length, drop, ◌∷◌, sym, ap, subst, ◌∙◌, rules}
 use Rattle.std.specs.Str.Lines.{lines, strip_carriage_return}
 use Rattle.rv_reader.specs.Cuts.{since}
-use Rattle.rv_reader.proofs.LineLemmas.{behind_shorter, first_line, last_line, no_line}
+use Rattle.rv_reader.proofs.LineLemmas.{first_line, last_line, no_line}
+use Rattle.rv_reader.proofs.MarkLemmas.{behind_shorter}
 use Rattle.rv_reader.proofs.lines.split_line.Goals as goal
 
 pub returns-then-is_empty-clause-split : goal.returns-then-is_empty-clause-split
@@ -33,4 +34,4 @@ returns-clause-shorter c =
     let text = c.args.text.now in
     let here : 0 < length c.cut.result.1.now = search rules in
     let some : 0 < length (since (λ byte. byte == 10) text) = subst (λ t. 0 < length t) c.cut.ensures.behind here in
-    subst (λ t. length t < length text) (sym (c.behind_first.ensures ∙ ap (drop 1) c.cut.ensures.behind)) (behind_shorter text some)
+    subst (λ t. length t < length text) (sym (c.behind_first.ensures ∙ ap (drop 1) c.cut.ensures.behind)) (behind_shorter (λ byte. byte == 10) text some)

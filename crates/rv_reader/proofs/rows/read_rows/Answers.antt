@@ -5,7 +5,7 @@ use Rattle.std.proofs.lemmas.Result.{err_from_is_err_and}
 use Rattle.rv_reader.specs.AreaRows.{row_of}
 use Rattle.rv_reader.specs.Refusals.{area_in}
 use Rattle.rv_reader.specs.RowsSoFar.{IsRowsSoFar}
-use Rattle.rv_reader.proofs.RowSteps.{one_area, rows_refused, rows_step}
+use Rattle.rv_reader.proofs.RowStepLemmas.{one_area, rows_refused, rows_step}
 use Rattle.rv_reader.proofs.rows.read_rows.Goals as goal
 
 pub returns-in_err-add_row-clause-refused : goal.returns-in_err-add_row-clause-refused

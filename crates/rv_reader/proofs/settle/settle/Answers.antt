@@ -5,7 +5,7 @@ use Rattle.rv_line.specs.declared.line.Line.TheVariants.{Fence}
 use Rattle.rv_reader.specs.Refusals.{refused_or, settled, target_cause, targets_refusal}
 use Rattle.rv_reader.specs.Views.{drafted}
 use Rattle.rv_reader.specs.declared.draft.Draft.TheVariants as draft
-use Rattle.rv_reader.proofs.SettleSteps.{item_same, refusal_step, settled_step}
+use Rattle.rv_reader.proofs.SettleStepLemmas.{item_same, refusal_step, settled_step}
 use Rattle.rv_reader.proofs.settle.settle.Goals as goal
 
 pub loop-at-preserved : goal.loop-at-preserved

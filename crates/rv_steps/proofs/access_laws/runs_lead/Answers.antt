@@ -1,5 +1,5 @@
 use Rattle.std.specs.Prelude.{IsTrue}
-use Rattle.rv_steps.proofs.Accesses.{accesses-add, all-back, all-each, all-front, leads-later, leads-line, leads-more, leads-none}
+use Rattle.rv_steps.proofs.AccessLemmas.{accesses-add, all-back, all-each, all-front, leads-later, leads-line, leads-more, leads-none}
 use Rattle.rv_steps.proofs.access_laws.runs_lead.Goals as goal
 
 pub returns : goal.returns

@@ -1,4 +1,4 @@
-use Rattle.rv_steps.proofs.Accesses.{within-exact, within-later, within-line, within-longer, within-more, within-none}
+use Rattle.rv_steps.proofs.AccessLemmas.{within-exact, within-later, within-line, within-longer, within-more, within-none}
 use Rattle.rv_steps.proofs.access_laws.runs_lead_within.Goals as goal
 
 pub returns : goal.returns

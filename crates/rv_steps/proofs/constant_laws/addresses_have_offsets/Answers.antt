@@ -1,4 +1,4 @@
-use Rattle.rv_steps.proofs.Pointers.{address-place, address-wrapped}
+use Rattle.rv_steps.proofs.PointerLemmas.{address-place, address-wrapped}
 use Rattle.rv_steps.proofs.constant_laws.addresses_have_offsets.Goals as goal
 
 pub returns : goal.returns

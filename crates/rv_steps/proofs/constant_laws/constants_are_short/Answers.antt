@@ -1,4 +1,4 @@
-use Rattle.rv_steps.proofs.ConstantForms.{few-lines, few-short-lines}
+use Rattle.rv_steps.proofs.ConstantFormLemmas.{few-lines, few-short-lines}
 use Rattle.rv_steps.proofs.constant_laws.constants_are_short.Goals as goal
 
 pub returns : goal.returns

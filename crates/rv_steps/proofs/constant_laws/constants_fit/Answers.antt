@@ -1,4 +1,4 @@
-use Rattle.rv_steps.proofs.ConstantForms.{all-base, all-free, all-written, fit-shifted}
+use Rattle.rv_steps.proofs.ConstantFormLemmas.{all-base, all-free, all-written, fit-shifted}
 use Rattle.rv_steps.proofs.constant_laws.constants_fit.Goals as goal
 
 pub returns : goal.returns

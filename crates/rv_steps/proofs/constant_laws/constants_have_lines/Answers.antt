@@ -1,4 +1,4 @@
-use Rattle.rv_steps.proofs.ConstantForms.{more-lines, one-line, two-lines}
+use Rattle.rv_steps.proofs.ConstantFormLemmas.{more-lines, one-line, two-lines}
 use Rattle.rv_steps.proofs.constant_laws.constants_have_lines.Goals as goal
 
 pub returns : goal.returns

@@ -1,4 +1,4 @@
-use Rattle.rv_steps.proofs.Wrapped.{wrapped-natural, word_of-wrapped, wrapped-below, wrapped-multiple, wrapped-sum}
+use Rattle.rv_steps.proofs.WrappedLemmas.{wrapped-natural, word_of-wrapped, wrapped-below, wrapped-multiple, wrapped-sum}
 use Rattle.rv_steps.proofs.constant_laws.numbers_wrap.Goals as goal
 
 pub returns : goal.returns

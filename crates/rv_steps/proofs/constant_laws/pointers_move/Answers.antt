@@ -1,4 +1,4 @@
-use Rattle.rv_steps.proofs.Pointers.{leads-stride, step-add, step-addi, step-slli}
+use Rattle.rv_steps.proofs.PointerLemmas.{leads-stride, step-add, step-addi, step-slli}
 use Rattle.rv_steps.proofs.constant_laws.pointers_move.Goals as goal
 
 pub returns : goal.returns

@@ -1,4 +1,4 @@
-use Rattle.rv_steps.proofs.Frames.{free-keeps}
+use Rattle.rv_steps.proofs.FrameLemmas.{free-keeps}
 use Rattle.rv_steps.proofs.frame_laws.free_lines_keep.Goals as goal
 
 pub returns : goal.returns

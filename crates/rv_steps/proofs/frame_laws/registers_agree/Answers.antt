@@ -1,4 +1,4 @@
-use Rattle.rv_steps.proofs.Registers.{agree-again, agree-kept, agree-more, agree-none, agree-one, agree-then}
+use Rattle.rv_steps.proofs.RegisterLemmas.{agree-again, agree-kept, agree-more, agree-none, agree-one, agree-then}
 use Rattle.rv_steps.proofs.frame_laws.registers_agree.Goals as goal
 
 pub returns : goal.returns

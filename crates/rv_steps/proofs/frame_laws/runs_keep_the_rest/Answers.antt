@@ -1,4 +1,4 @@
-use Rattle.rv_steps.proofs.Frames.{run-agrees, run-byte, run-value, run-values}
+use Rattle.rv_steps.proofs.FrameLemmas.{run-agrees, run-byte, run-value, run-values}
 use Rattle.rv_steps.proofs.frame_laws.runs_keep_the_rest.Goals as goal
 
 pub returns : goal.returns

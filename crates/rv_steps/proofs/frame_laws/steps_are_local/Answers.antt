@@ -1,4 +1,4 @@
-use Rattle.rv_steps.proofs.Frames.{step-local}
+use Rattle.rv_steps.proofs.FrameLemmas.{step-local}
 use Rattle.rv_steps.proofs.frame_laws.steps_are_local.Goals as goal
 
 pub returns : goal.returns

@@ -1,4 +1,4 @@
-use Rattle.rv_steps.proofs.GoodExamples.{copy-serves, not-given-back, too-slow}
+use Rattle.rv_steps.proofs.GoodExampleLemmas.{copy-serves, not-given-back, too-slow}
 use Rattle.rv_steps.proofs.good_examples.copies_serve.Goals as goal
 
 pub returns : goal.returns

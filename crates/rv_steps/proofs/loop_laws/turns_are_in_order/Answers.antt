@@ -1,6 +1,6 @@
 use Rattle.std.specs.Prelude.{IsTrue}
 use Rattle.rv_steps.specs.Frames.{Spares}
-use Rattle.rv_steps.proofs.Loops.{All-turns, flat_map-more, tour-leads}
+use Rattle.rv_steps.proofs.LoopLemmas.{All-turns, flat_map-more, tour-leads}
 use Rattle.rv_steps.proofs.loop_laws.turns_are_in_order.Goals as goal
 
 pub returns : goal.returns

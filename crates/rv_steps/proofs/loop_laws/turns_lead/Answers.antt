@@ -1,6 +1,6 @@
 use Rattle.rv_steps.specs.Accesses.{Leads, LeadsWithin}
-use Rattle.rv_steps.proofs.Accesses.{leads-more, leads-none, within-more, within-none}
-use Rattle.rv_steps.proofs.Loops.{turns-chain}
+use Rattle.rv_steps.proofs.AccessLemmas.{leads-more, leads-none, within-more, within-none}
+use Rattle.rv_steps.proofs.LoopLemmas.{turns-chain}
 use Rattle.rv_steps.proofs.loop_laws.turns_lead.Goals as goal
 
 pub returns : goal.returns

@@ -1,4 +1,4 @@
-use Rattle.rv_steps.proofs.Runs.{reaches_more}
+use Rattle.rv_steps.proofs.RunLemmas.{reaches_more}
 use Rattle.rv_steps.proofs.machine_laws.chains_compose.Goals as goal
 
 pub returns : goal.returns

@@ -1,4 +1,4 @@
-use Rattle.rv_steps.proofs.Steps.{next_step-at_line, access_at-line, next_step-load, next_step-store, next_step-taken, next_step-not_taken}
+use Rattle.rv_steps.proofs.StepLemmas.{next_step-at_line, access_at-line, next_step-load, next_step-store, next_step-taken, next_step-not_taken}
 use Rattle.rv_steps.proofs.machine_laws.lines_take_steps.Goals as goal
 
 pub returns : goal.returns

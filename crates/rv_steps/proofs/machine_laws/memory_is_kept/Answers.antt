@@ -1,4 +1,4 @@
-use Rattle.rv_steps.proofs.Memory.{word_again, word_elsewhere, value_elsewhere, kept, length-with_value}
+use Rattle.rv_steps.proofs.MemoryLemmas.{word_again, word_elsewhere, value_elsewhere, kept, length-with_value}
 use Rattle.rv_steps.proofs.machine_laws.memory_is_kept.Goals as goal
 
 pub returns : goal.returns

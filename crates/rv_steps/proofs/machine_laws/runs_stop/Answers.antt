@@ -1,4 +1,4 @@
-use Rattle.rv_steps.proofs.Runs.{run-stops, run-is, stops_within}
+use Rattle.rv_steps.proofs.RunLemmas.{run-stops, run-is, stops_within}
 use Rattle.rv_steps.proofs.machine_laws.runs_stop.Goals as goal
 
 pub returns : goal.returns

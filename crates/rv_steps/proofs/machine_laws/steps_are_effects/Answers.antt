@@ -1,4 +1,4 @@
-use Rattle.rv_steps.proofs.Steps.{next_step-goes}
+use Rattle.rv_steps.proofs.StepLemmas.{next_step-goes}
 use Rattle.rv_steps.proofs.machine_laws.steps_are_effects.Goals as goal
 
 pub returns : goal.returns

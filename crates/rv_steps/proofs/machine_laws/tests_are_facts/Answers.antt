@@ -1,4 +1,4 @@
-use Rattle.rv_steps.proofs.Steps.{next_step-at_end, at_end-next_step, is_allowed-true, IsAllowed-true}
+use Rattle.rv_steps.proofs.StepLemmas.{next_step-at_end, at_end-next_step, is_allowed-true, IsAllowed-true}
 use Rattle.rv_steps.proofs.machine_laws.tests_are_facts.Goals as goal
 
 pub returns : goal.returns

@@ -1,7 +1,7 @@
 use Rattle.rv_steps.specs.Effects.{load_width}
 use Rattle.rv_steps.specs.Machine.{value_at}
-use Rattle.rv_steps.proofs.Memory.{value-below}
-use Rattle.rv_steps.proofs.Words.{three_value-below, immediate_value-below, upper_value-below, load_value-below}
+use Rattle.rv_steps.proofs.MemoryLemmas.{value-below}
+use Rattle.rv_steps.proofs.WordLemmas.{three_value-below, immediate_value-below, upper_value-below, load_value-below}
 use Rattle.rv_steps.proofs.machine_laws.words_give_words.Goals as goal
 
 pub returns : goal.returns

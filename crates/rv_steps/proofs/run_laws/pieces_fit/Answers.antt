@@ -1,4 +1,4 @@
-use Rattle.rv_steps.proofs.Pieces.{piece-fits}
+use Rattle.rv_steps.proofs.PieceLemmas.{piece-fits}
 use Rattle.rv_steps.proofs.run_laws.pieces_fit.Goals as goal
 
 pub returns : goal.returns

@@ -1,4 +1,4 @@
-use Rattle.rv_steps.proofs.Pieces.{piece-back, piece-front, piece-line, piece-stands}
+use Rattle.rv_steps.proofs.PieceLemmas.{piece-back, piece-front, piece-line, piece-stands}
 use Rattle.rv_steps.proofs.run_laws.pieces_stand.Goals as goal
 
 pub returns : goal.returns

@@ -1,4 +1,4 @@
-use Rattle.rv_steps.proofs.Walks.{walk-within, walk-wrapping}
+use Rattle.rv_steps.proofs.WalkLemmas.{walk-within, walk-wrapping}
 use Rattle.rv_steps.proofs.run_laws.pointers_walk.Goals as goal
 
 pub returns : goal.returns

@@ -1,4 +1,4 @@
-use Rattle.rv_steps.proofs.Written.{none-written, more-written, values-written, values-elsewhere}
+use Rattle.rv_steps.proofs.WrittenLemmas.{none-written, more-written, values-written, values-elsewhere}
 use Rattle.rv_steps.proofs.run_laws.words_are_written.Goals as goal
 
 pub returns : goal.returns

@@ -1,4 +1,4 @@
-use Rattle.rv_steps.proofs.AreaWords.{word-loaded, word-stored}
+use Rattle.rv_steps.proofs.AreaWordLemmas.{word-loaded, word-stored}
 use Rattle.rv_steps.proofs.word_laws.words_are_moved.Goals as goal
 
 pub returns : goal.returns

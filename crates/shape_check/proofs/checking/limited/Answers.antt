@@ -1,5 +1,6 @@
 use Rattle.std.proofs.Common.{◌≤◌, ◌++◌, ◌∙◌, ap, sym, subst}
 use Rattle.std.proofs.lemmas.Result.{err_from_is_err_and}
+use Rattle.shapes_core.specs.Limits.{most_words}
 use Rattle.shape_check.specs.Judged.{items_in}
 use Rattle.shape_check.specs.Blocks.{IsLayout, array_words}
 use Rattle.shape_check.specs.Layout.{placed}
@@ -39,7 +40,7 @@ new-layout-requires c =
     let few = words_small c.args.program q c.requires c.in_ok-within.ensures.told c.in_ok-within-2.ensures.told c.deref-3.result.now they c.array_words.result c.array_words.ensures
     c.in_ok-within-3.ensures.told in
     subst IsLayout (sym (c.in_ok-place.ensures ∙ ap (placed 0) (c.deref-4.ensures.value ∙ sym c.deref-3.ensures.value ∙ they)))
-    (layout_kept (items_in c.args.program) c.requires.shapes c.requires.verdict (subst (λ l. array_words l ≤ 134217728) they few))
+    (layout_kept (items_in c.args.program) c.requires.shapes c.requires.verdict (subst (λ l. array_words l ≤ most_words) they few))
 
 pub new-requires : goal.new-requires
 new-requires c =

@@ -1,5 +1,6 @@
 use Rattle.std.proofs.Common.{◌≡◌, ◌≤◌, ◌+◌, ◌*◌, [], length, drop, get_or, arith}
 use Rattle.std.proofs.Math.ListN.{drop_of_length-le}
+use Rattle.shapes_core.specs.Limits.{greatest_extent}
 use Rattle.shapes_core.specs.Shape.{total}
 use Rattle.shapes_core.proofs.SpanLemmas.{span_above, span_within, total_more, total_step}
 use Rattle.shapes_core.proofs.shape.total.Goals as goal
@@ -10,7 +11,7 @@ overflow_mul-total c =
     let i = c.loop-extent.extent-index in
     omega (
       arith,
-      total_step c.loop-extent.total 16777216 extents i (omega arith) (omega arith),
+      total_step c.loop-extent.total greatest_extent extents i (omega arith) (omega arith),
       span_above (c.loop-extent.total * get_or extents i 0) (drop (i + 1) extents),
     )
 
@@ -25,7 +26,7 @@ loop-extent-preserved c =
     let extents = c.extents-extent-items.result.now in
     let i = c.loop-extent.extent-index in (
       omega (arith, total_more c.loop-extent.total extents i (omega arith)),
-      total_step c.loop-extent.total 16777216 extents i (omega arith) (omega arith),
+      total_step c.loop-extent.total greatest_extent extents i (omega arith) (omega arith),
     )
 
 pub returns-clause-value : goal.returns-clause-value

@@ -1,6 +1,6 @@
 use Rattle.std.proofs.Common.{pos, arith}
-use Rattle.normal_form.proofs.FillLemmas.{fills}
 use Rattle.normal_form.proofs.strides.Strides.new.Goals as goal
 
 pub invariant_of-result : goal.invariant_of-result
-invariant_of-result c = fills (0, pos 0) 6 c.args.list.now c.copy_from_slice.new.self c.copy_from_slice.ensures.after (omega arith)
+invariant_of-result c =
+    c.copies_are_padded.ensures (0, pos 0) 6 c.args.list.now c.copy_from_slice.new.self c.copy_from_slice.ensures.after (omega arith)

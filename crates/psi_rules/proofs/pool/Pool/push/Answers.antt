@@ -8,7 +8,7 @@ use Rattle.psi_rules.proofs.pool.Pool.push.Goals as goal
 pub invariant_of-self-2 : goal.invariant_of-self-2
 invariant_of-self-2 c =
     subst IsPool (sym c.in_ok-push_term.ensures.added)
-    (pool-grown c.self.inside.terms.items c.args.term c.self.invariant (omega (arith, c.if-len-ge-MOST_TERMS.false, c.len.ensures))
+    (pool-grown c.self.inside.terms.items c.args.term c.self.invariant (omega (arith, c.if-len-ge-MOST_ITEMS.false, c.len.ensures))
     (subst (λ terms. AllByRecursion (λ operand. operand < length terms) (operands c.args.term)) (sym (ap (λ b. b.terms) c.self.view_is)) c.requires))
 
 pub returns : goal.returns

@@ -1,4 +1,4 @@
-use Rattle.rv_reader.proofs.RowSteps.{row_follows, row_new}
+use Rattle.rv_reader.proofs.RowStepLemmas.{row_follows, row_new}
 use Rattle.rv_reader.proofs.rows.Areas.add_row.Goals as goal
 
 pub add-requires-clause-follows : goal.add-requires-clause-follows

@@ -9,6 +9,6 @@ invariant_of-result c =
     let bytes = c.args.bytes.now in
     let copied = c.copy_from_slice.new.self in
     let name : IsName bytes = grind arith in (
-      filled 64 bytes copied c.copy_from_slice.ensures.after (length-IsName bytes name),
+      filled 0 64 bytes copied c.copy_from_slice.ensures.after (length-IsName bytes name),
       subst (λ list. IsName list) (sym (filled_front bytes copied _ c.copy_from_slice.ensures.after)) name,
     )

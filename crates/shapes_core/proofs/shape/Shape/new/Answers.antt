@@ -9,6 +9,6 @@ invariant_of-result c =
     let extents = c.args.extents.now in
     let copied = c.copy_from_slice.new.self in
     let shape : IsShape extents = grind (arith, nat_tests) in (
-      filled 6 extents copied c.copy_from_slice.ensures.after (omega arith),
+      filled 0 6 extents copied c.copy_from_slice.ensures.after (omega arith),
       subst (λ list. IsShape list) (sym (filled_front extents copied _ c.copy_from_slice.ensures.after)) shape,
     )
