@@ -1,5 +1,5 @@
 -- What a good text gives of arrays.
-use Rattle.std.proofs.Common.{◌≡◌, ℕ, ◌≤◌, ◌^◌, ℤ, List, ◌∙◌, length, sym, ap, subst, arith, sum_by, FitsSigned}
+use Rattle.std.proofs.Common.{◌≡◌, ℕ, ◌≤◌, ℤ, List, ◌∙◌, length, sym, ap, subst, arith, sum_by, FitsSigned}
 use Rattle.std.specs.Int.{w64}
 use Rattle.std.specs.List.{All}
 use Rattle.shapes_core.specs.Limits.{most_items, most_words}
@@ -8,7 +8,10 @@ use Rattle.rv_line.specs.Fits.{AreAreas}
 use Rattle.rv_line.specs.Parts.{Parts, block_words}
 use Rattle.rv_line.specs.Spells.{Spells}
 use Rattle.rv_line.specs.declared.line.Line.{Line}
-use Rattle.rv_steps.specs.Good.{IsStart, Serves, input_values}
+use Rattle.rv_machine.specs.Views.{end_of}
+use Rattle.rv_machine.specs.declared.machine.End.{End as Answer}
+use Rattle.rv_machine.specs.declared.machine.End.TheVariants as answer
+use Rattle.rv_steps.specs.Good.{IsStart, Serves, input_values, output_values}
 use Rattle.rv_steps.specs.GoodText.{IsGood}
 use Rattle.rv_steps.specs.Machine.{Config}
 use Rattle.rv_steps.specs.Stops.{Done, End, Stops, run}
@@ -52,3 +55,28 @@ module _ (bytes_law : BytesLaw) (stops_law : StopsLaw) where
       (subst (λ (p : Parts).
       (base : ℕ) (c : Config) → IsStart p.header p.areas p.lines base c → Serves p.header p.areas p.lines demand base c)
       (sym (good.only program spelled)) good.serves base (start program arrays) (is_start bytes_law program arrays few room whole))
+
+-- the end that an answer names is one of a run that is done
+done_answer : (steps : ℕ) (end : Answer) → Done steps ≡ end_of end → end ≡ answer.Done steps
+done_answer steps (answer.Done made) e = cc
+done_answer steps (answer.Access line address) e = cc
+done_answer steps (answer.OffText address) e = cc
+done_answer steps (answer.Trap line) e = cc
+done_answer steps answer.Budget e = cc
+
+-- a run of a text that is good for a demand is done, within the printed steps, with the outputs that are demanded
+pub good_ends : ((lines : List Line) (base budget : ℕ) (c : Config) (one other : End) (d e : Config) → Stops lines base budget c one d → Stops lines base budget c other e → (one ≡ other) × (d ≡ e))
+    → (text : List ℕ) (areas : List Area) (demand : List (List ℤ) → List (List ℤ)) (program : Parts) (base : ℕ) (c last : Config) (end : Answer)
+    → IsGood text areas demand → Spells text program → IsStart program.header program.areas program.lines base c
+    → Stops program.lines base program.header.steps c (end_of end) last
+    → (steps : ℕ) × (end ≡ answer.Done steps) × (steps ≤ program.header.steps)
+    × (output_values program.header program.areas last.block ≡ demand (input_values program.header program.areas c.block))
+good_ends determined text areas demand program base c last end good spelled start stops =
+    let serves = subst (λ (p : Parts). (base : ℕ) (c : Config) → IsStart p.header p.areas p.lines base c → Serves p.header p.areas p.lines demand base c)
+    (sym (good.only program spelled)) good.serves base c start in
+    let both = determined program.lines base program.header.steps c (Done serves.steps) (end_of end) serves.last last (serves.within, serves.ends) stops in (
+      serves.steps,
+      done_answer serves.steps end both.0,
+      serves.within,
+      ap (λ (d : Config). output_values program.header program.areas d.block) (sym both.1) ∙ serves.outputs,
+    )

@@ -1,12 +1,17 @@
 // Worked examples of runs on arrays, computed: no body runs.
 #![tactic(auto, unfolding(crate::specs::Examples::ran_lines))]
 
-ghost use Rattle.std.specs.Prelude.{◌≡◌, [], ◌∷◌, ◌++◌, codes, negsuc, pos, replicate};
+ghost use Rattle.std.specs.Prelude.{◌≡◌, [], ◌∷◌, ◌++◌, ℕ, ℤ, List, codes, negsuc, pos, replicate};
+ghost use Rattle.shapes_core.specs.declared.area.Area.{Area};
+ghost use Rattle.rv_line.specs.Parts.{Parts};
+ghost use Rattle.rv_line.specs.Spells.{Spells};
 ghost use Rattle.rv_line.specs.declared.line.Line.{Line};
 ghost use Rattle.rv_line.specs.declared.line.Store.{Store};
+ghost use Rattle.rv_steps.specs.Good.{input_values, output_values};
+ghost use Rattle.rv_steps.specs.GoodText.{IsGood};
 ghost use Rattle.rv_steps.specs.Machine.{BadAccess, OffText as OffTextStop, Trap as TrapStop};
 ghost use Rattle.rv_steps.specs.Stops.{Budget, Done, Stopped};
-ghost use Rattle.array_run.specs.Examples.{copy_lines, five_area_program, five_areas, numbered_block, ran_lines};
+ghost use Rattle.array_run.specs.Examples.{copy_areas, copy_lines, five_area_program, five_areas, numbered_block, ran_lines};
 ghost use Rattle.array_run.specs.Ran.{Access, OffText, Prints, Refused, Says, Spent, Trap, ended, printed_all, printed_outputs};
 ghost use Rattle.array_run.specs.declared.error.RunError.{RunError};
 ghost use Rattle.array_run.specs.Starts.{inputs, outputs, start, start_block, start_registers};
@@ -41,6 +46,22 @@ pub fn outputs_are_printed()
     ensures all { printed_all (outputs five_areas)
         ((pos 5 ∷ []) ∷ (pos 6 ∷ negsuc 6 ∷ pos 8 ∷ []) ∷ [])
         ≡ printed_outputs 1 five_areas numbered_block }
+{}
+
+/// The values of the inputs and of the outputs of a block. A scan is neither.
+pub fn areas_are_told_apart()
+    ensures inputs { input_values five_area_program.header five_areas numbered_block
+        ≡ (pos 1 ∷ pos 2 ∷ []) ∷ (pos 3 ∷ []) ∷ [] }
+    ensures outputs { output_values five_area_program.header five_areas numbered_block
+        ≡ (pos 5 ∷ []) ∷ (pos 6 ∷ negsuc 6 ∷ pos 8 ∷ []) ∷ [] }
+{}
+
+/// A text is good for the areas of the one program that it spells, and for no others.
+pub fn good_texts_have_their_areas()
+    ensures spelled { (text : List ℕ) (areas : List Area) (demand : List (List ℤ) → List (List ℤ)) (made : Parts)
+        → IsGood text areas demand → Spells text made → made.areas ≡ areas }
+    ensures other_areas { (text : List ℕ) (demand : List (List ℤ) → List (List ℤ)) (made : Parts)
+        → IsGood text copy_areas demand → Spells text made → made.areas ≡ five_areas → ⊥ }
 {}
 
 /// Each end: what is printed, or the line of the text where the run stopped.

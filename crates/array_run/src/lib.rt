@@ -7,8 +7,6 @@ pub mod laws;
 mod outputs;
 mod run;
 mod start;
-#[cfg(test)]
-mod tests;
 
 pub use error::RunError;
 pub use run::run_on_arrays;

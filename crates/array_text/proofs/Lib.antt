@@ -12,6 +12,5 @@ pub mod PrintLemmas
 pub mod ReadBackLemmas
 pub mod SlotLemmas
 pub mod SourceLemmas
-pub mod TestLemmas
 pub mod ValueLemmas
 pub mod WholeLemmas

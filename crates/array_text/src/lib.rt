@@ -15,8 +15,6 @@ mod printer;
 mod reading;
 pub mod reading_examples;
 mod source;
-#[cfg(test)]
-mod tests;
 mod values;
 
 pub use arrays::Arrays;

@@ -5,4 +5,3 @@ pub mod OperationalLemmas
 pub mod PoolLemmas
 pub mod StackLemmas
 pub mod StrideLemmas
-pub mod TestLemmas

@@ -13,8 +13,6 @@ mod operational_line;
 mod pieces;
 mod rows;
 mod strides;
-#[cfg(test)]
-mod tests;
 mod words;
 
 pub use nest_lines::nest_text;

@@ -6,8 +6,6 @@ mod lists;
 mod nest;
 pub mod nest_examples;
 mod step;
-#[cfg(test)]
-mod tests;
 
 pub use lists::Lists;
 pub use nest::Nest;

@@ -1,6 +1,7 @@
 // A nest in the making.
-ghost use Rattle.std.specs.Prelude.{◌≡◌, ◌++◌, ◌∷◌, ◌<◌, ◌-◌, [], IfOk, OnErr, length, map};
+ghost use Rattle.std.specs.Prelude.{◌≡◌, ◌++◌, ◌∷◌, ◌<◌, ◌-◌, [], IfOk, OnErr, length, map, nat_le};
 ghost use Rattle.std.specs.List.{AllByRecursion, flat_map};
+ghost use Rattle.shapes_core.specs.Limits.{most_items};
 ghost use Rattle.loop_ir.specs.Kept.{IsMaking, KeepsCounters};
 ghost use Rattle.loop_ir.specs.Pool.{inner_lists, renumbered, tree, tree_at, trees, turned};
 
@@ -38,16 +39,21 @@ impl Lists {
         }
     }
 
+    /// Whether there are as many lists as a nest may have.
+    pub fn is_full(&self) -> bool
+        ensures { result ≡ nat_le most_items (length self.now) }
+    {
+        self.lists.len() >= MOST_ITEMS
+    }
+
     /// Adds a list, and answers its number.
     pub fn add(&mut self, list: Vec<Step>) -> Result<u32, NoMemory>
-        requires { AllByRecursion (λ inner. inner < length self.old) (flat_map inner_lists list.items) }
+        requires inner { AllByRecursion (λ inner. inner < length self.old) (flat_map inner_lists list.items) }
+        requires room { length self.old < most_items }
         ensures added { IfOk result (λ number. (number ≡ length self.old) × (self.new ≡ self.old ++ list.items ∷ [])) }
         ensures kept { OnErr result (self.new ≡ self.old) }
     {
         let number = self.lists.len();
-        if number >= MOST_ITEMS {
-            return Err(NoMemory);
-        }
         self.lists.push(list)?;
         Ok(number as u32)
     }

@@ -24,8 +24,8 @@ impl Model for Nest {
 }
 
 impl Nest {
-    /// The nest of these lists.
-    pub(crate) fn new(lists: Vec<Vec<Step>>) -> Nest
+    /// The nest of these lists. It takes no memory.
+    pub fn new(lists: Vec<Vec<Step>>) -> Nest
         requires { IsNest (map (λ list. list.items) lists.items) }
         ensures { result ≡ map (λ list. list.items) lists.items }
     {

@@ -5,6 +5,7 @@ pub mod KeepLemmas
 pub mod LineLemmas
 pub mod ListLemmas
 pub mod OutcomeLemmas
+pub mod RoomLemmas
 pub mod SourceLemmas
 pub mod StackLemmas
 pub mod StandingLemmas

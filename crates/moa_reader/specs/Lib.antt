@@ -7,6 +7,7 @@ pub mod Limits
 pub mod Lists
 pub mod Outcomes
 pub mod Printed
+pub mod Rooms
 pub mod Sources
 pub mod Standing
 pub mod Statements

@@ -4,7 +4,9 @@ ghost use Rattle.moa_tree.specs.Expected.{Want};
 ghost use Rattle.moa_tree.specs.Outcome.{is_stuck};
 ghost use Rattle.moa_tree.specs.Pools.{Pools};
 ghost use Rattle.moa_reader.specs.Build.{IsOpen};
+ghost use Rattle.shapes_core.specs.Limits.{most_items};
 ghost use Rattle.moa_reader.specs.Outcomes.{IsRefusedWith};
+ghost use Rattle.moa_reader.specs.Rooms.{HasRoom, Spends, begun, built};
 ghost use Rattle.moa_reader.specs.Sources.{Ahead, all};
 ghost use Rattle.moa_reader.specs.Standing.{IsRead, IsWanted, Stands};
 
@@ -27,8 +29,10 @@ pub(crate) fn expression(
     source: &mut Source<'_>,
     builder: &mut Builder,
 ) -> Result<u32, ReadError>
-    requires { IsOpen [] [] builder.old }
+    requires open { IsOpen [] [] builder.old }
+    requires room { HasRoom 0 source.old builder.old }
     ensures read { IfOk result (λ number. IsRead source.old builder.old [] number source.new builder.new) }
+    ensures spent { OnOk result (Spends 0 source.old builder.old 0 source.new builder.new) }
     ensures fewer { OnOk result (length source.new.behind ≤ length source.old.behind) }
     ensures refused { IfErr result (λ error. (wants : List Want) → is_stuck wants ≡ false
         → IsRefusedWith (Want.AnExpr 1 ∷ wants) (all source.old) error) }
@@ -51,8 +55,10 @@ pub(crate) fn expression(
 
 /// Reads what the expression begins with that is wanted in these forms.
 fn begin(source: &mut Source<'_>, builder: &mut Builder, frames: &Frames) -> Result<Head, ReadError>
+    requires { HasRoom 0 source.old builder.old }
     ensures stands { IfOk result (λ head. (first : Ahead) (before : Pools) → IsWanted first before frames.now source.old builder.old
         → Stands first before frames.now head source.new builder.new) }
+    ensures spent { IfOk result (λ head. Spends 0 source.old builder.old (begun head) source.new builder.new) }
     ensures fewer { OnOk result (length source.new.behind < length source.old.behind) }
     ensures refused { IfErr result (λ error. (first : Ahead) (before : Pools) → IsWanted first before frames.now source.old builder.old
         → (wants : List Want) → is_stuck wants ≡ false → IsRefusedWith (Want.AnExpr 1 ∷ wants) (all first) error) }
@@ -68,8 +74,10 @@ fn close(
     frame: Frame,
     node: u32,
 ) -> Result<Head, ReadError>
+    requires { HasRoom 1 source.old builder.old }
     ensures stands { IfOk result (λ head. (first : Ahead) (before : Pools) (frames : List Frame)
         → IsRead first before (frame ∷ frames) node source.old builder.old → Stands first before frames head source.new builder.new) }
+    ensures spent { IfOk result (λ head. Spends 1 source.old builder.old (begun head) source.new builder.new) }
     ensures fewer { OnOk result (length source.new.behind ≤ length source.old.behind) }
     ensures refused { IfErr result (λ error. (first : Ahead) (before : Pools) (frames : List Frame)
         → IsRead first before (frame ∷ frames) node source.old builder.old
@@ -90,6 +98,7 @@ fn close(
 fn close_parentheses(source: &mut Source<'_>, node: u32) -> Result<Head, ReadError>
     ensures stands { IfOk result (λ head. (first : Ahead) (before pools : Pools) (frames : List Frame)
         → IsRead first before (Frame.Parentheses ∷ frames) node source.old pools → Stands first before frames head source.new pools) }
+    ensures spent { IfOk result (λ head. (pools : Pools) → Spends 1 source.old pools (begun head) source.new pools) }
     ensures fewer { OnOk result (length source.new.behind ≤ length source.old.behind) }
     ensures refused { IfErr result (λ error. (first : Ahead) (before pools : Pools) (frames : List Frame)
         → IsRead first before (Frame.Parentheses ∷ frames) node source.old pools
@@ -100,8 +109,10 @@ fn close_parentheses(source: &mut Source<'_>, node: u32) -> Result<Head, ReadErr
 }
 
 fn close_one(builder: &mut Builder, form: OneForm, at: Position, of: u32) -> Result<Head, ReadError>
+    requires { built builder.old < most_items }
     ensures stands { IfOk result (λ head. (first here : Ahead) (before : Pools) (frames : List Frame)
         → IsRead first before (Frame.One form at ∷ frames) of here builder.old → Stands first before frames head here builder.new) }
+    ensures spent { IfOk result (λ head. begun head + built builder.new ≡ 1 + built builder.old) }
     ensures refused { IfErr result (λ error. error ≡ ReadError.Memory) }
 {
     pools_keep();
@@ -116,8 +127,10 @@ fn close_two(
     left: u32,
     right: u32,
 ) -> Result<Head, ReadError>
+    requires { built builder.old < most_items }
     ensures stands { IfOk result (λ head. (first here : Ahead) (before : Pools) (frames : List Frame)
         → IsRead first before (Frame.Second form at left ∷ frames) right here builder.old → Stands first before frames head here builder.new) }
+    ensures spent { IfOk result (λ head. begun head + built builder.new ≡ 1 + built builder.old) }
     ensures refused { IfErr result (λ error. error ≡ ReadError.Memory) }
 {
     pools_keep();

@@ -8,6 +8,7 @@ ghost use Rattle.moa_reader.specs.Forms.{lexeme_of_fold, lexeme_of_list};
 ghost use Rattle.moa_reader.specs.Heads.{Begins, ReadsHead, begins};
 ghost use Rattle.moa_reader.specs.Lexemes.{lexeme_of_word, lexeme_read};
 ghost use Rattle.moa_reader.specs.Outcomes.{IsRefusedWith};
+ghost use Rattle.moa_reader.specs.Rooms.{HasRoom, Spends, begun};
 ghost use Rattle.moa_reader.specs.Sources.{all};
 
 use crate::error::ReadError;
@@ -35,7 +36,9 @@ pub(crate) fn begin_expression(
     builder: &mut Builder,
     is_shallow: bool,
 ) -> Result<Head, ReadError>
+    requires { HasRoom 0 source.old builder.old }
     ensures head { IfOk result (λ head. IsTrue is_shallow × Begins source.old builder.old head source.new builder.new) }
+    ensures spent { IfOk result (λ head. Spends 0 source.old builder.old (begun head) source.new builder.new) }
     ensures refused { IfErr result (λ error. (depth : ℕ) (wants : List Want) → (depth == 129) ≡ not is_shallow
         → is_stuck wants ≡ false → IsRefusedWith (Want.AnExpr depth ∷ wants) (all source.old) error) }
 {
@@ -59,8 +62,10 @@ fn rest(
     lexeme: Lexeme,
     at: Position,
 ) -> Result<Head, ReadError>
-    requires { begins (lexeme_read lexeme) ≡ true }
+    requires begins { begins (lexeme_read lexeme) ≡ true }
+    requires room { HasRoom 1 source.old builder.old }
     ensures head { IfOk result (λ head. ReadsHead (lexeme_read lexeme) at source.old builder.old head source.new builder.new) }
+    ensures spent { IfOk result (λ head. Spends 1 source.old builder.old (begun head) source.new builder.new) }
     ensures refused { IfErr result (λ error. (depth : ℕ) (wants : List Want) → is_stuck wants ≡ false
         → IsRefusedWith (on_expr depth wants (lexeme_read lexeme)) (all source.old) error) }
 {
@@ -79,8 +84,10 @@ fn form(
     word: Word,
     at: Position,
 ) -> Result<Head, ReadError>
-    requires { begins (lexeme_of_word word) ≡ true }
+    requires begins { begins (lexeme_of_word word) ≡ true }
+    requires room { HasRoom 1 source.old builder.old }
     ensures head { IfOk result (λ head. ReadsHead (lexeme_of_word word) at source.old builder.old head source.new builder.new) }
+    ensures spent { IfOk result (λ head. Spends 1 source.old builder.old (begun head) source.new builder.new) }
     ensures refused { IfErr result (λ error. (depth : ℕ) (wants : List Want) → is_stuck wants ≡ false
         → IsRefusedWith (on_expr depth wants (lexeme_of_word word)) (all source.old) error) }
 {
@@ -113,7 +120,9 @@ fn listed(
     form: ListForm,
     at: Position,
 ) -> Result<Head, ReadError>
+    requires { HasRoom 1 source.old builder.old }
     ensures head { IfOk result (λ head. ReadsHead (lexeme_of_list form) at source.old builder.old head source.new builder.new) }
+    ensures spent { IfOk result (λ head. Spends 1 source.old builder.old (begun head) source.new builder.new) }
     ensures refused { IfErr result (λ error. (depth : ℕ) (wants : List Want) → is_stuck wants ≡ false
         → IsRefusedWith (on_expr depth wants (lexeme_of_list form)) (all source.old) error) }
 {
@@ -124,6 +133,7 @@ fn listed(
 #[tactic(auto, using(crate::proofs::HeadLemmas::folded_begins, crate::proofs::HeadLemmas::folded_refused))]
 fn folded(source: &mut Source<'_>, form: FoldForm, at: Position) -> Result<Head, ReadError>
     ensures head { IfOk result (λ head. (pools : Pools) → ReadsHead (lexeme_of_fold form) at source.old pools head source.new pools) }
+    ensures spent { IfOk result (λ head. (pools : Pools) → Spends 1 source.old pools (begun head) source.new pools) }
     ensures refused { IfErr result (λ error. (depth : ℕ) (wants : List Want) → is_stuck wants ≡ false
         → IsRefusedWith (on_expr depth wants (lexeme_of_fold form)) (all source.old) error) }
 {
@@ -133,7 +143,9 @@ fn folded(source: &mut Source<'_>, form: FoldForm, at: Position) -> Result<Head,
 
 #[tactic(auto, using(crate::proofs::HeadLemmas::iota_read))]
 fn iota(source: &mut Source<'_>, builder: &mut Builder, at: Position) -> Result<Head, ReadError>
+    requires { HasRoom 1 source.old builder.old }
     ensures head { IfOk result (λ head. ReadsHead Terminal.Iota at source.old builder.old head source.new builder.new) }
+    ensures spent { IfOk result (λ head. Spends 1 source.old builder.old (begun head) source.new builder.new) }
     ensures refused { IfErr result (λ error. (depth : ℕ) (wants : List Want) → is_stuck wants ≡ false
         → IsRefusedWith (on_expr depth wants Terminal.Iota) (all source.old) error) }
 {
@@ -145,6 +157,7 @@ fn iota(source: &mut Source<'_>, builder: &mut Builder, at: Position) -> Result<
 #[tactic(auto, using(crate::proofs::HeadLemmas::rotate_begins))]
 fn rotate(source: &mut Source<'_>, at: Position) -> Result<Head, ReadError>
     ensures head { IfOk result (λ head. (pools : Pools) → ReadsHead Terminal.Rotate at source.old pools head source.new pools) }
+    ensures spent { IfOk result (λ head. (pools : Pools) → Spends 1 source.old pools (begun head) source.new pools) }
     ensures refused { IfErr result (λ error. (depth : ℕ) (wants : List Want) → is_stuck wants ≡ false
         → IsRefusedWith (on_expr depth wants Terminal.Rotate) (all source.old) error) }
 {
@@ -155,6 +168,7 @@ fn rotate(source: &mut Source<'_>, at: Position) -> Result<Head, ReadError>
 #[tactic(auto, using(crate::proofs::HeadLemmas::outer_begins))]
 fn outer(source: &mut Source<'_>, at: Position) -> Result<Head, ReadError>
     ensures head { IfOk result (λ head. (pools : Pools) → ReadsHead Terminal.Outer at source.old pools head source.new pools) }
+    ensures spent { IfOk result (λ head. (pools : Pools) → Spends 1 source.old pools (begun head) source.new pools) }
     ensures refused { IfErr result (λ error. (depth : ℕ) (wants : List Want) → is_stuck wants ≡ false
         → IsRefusedWith (on_expr depth wants Terminal.Outer) (all source.old) error) }
 {
@@ -165,6 +179,7 @@ fn outer(source: &mut Source<'_>, at: Position) -> Result<Head, ReadError>
 #[tactic(auto, using(crate::proofs::HeadLemmas::inner_begins))]
 fn inner(source: &mut Source<'_>, at: Position) -> Result<Head, ReadError>
     ensures head { IfOk result (λ head. (pools : Pools) → ReadsHead Terminal.Inner at source.old pools head source.new pools) }
+    ensures spent { IfOk result (λ head. (pools : Pools) → Spends 1 source.old pools (begun head) source.new pools) }
     ensures refused { IfErr result (λ error. (depth : ℕ) (wants : List Want) → is_stuck wants ≡ false
         → IsRefusedWith (on_expr depth wants Terminal.Inner) (all source.old) error) }
 {

@@ -1,5 +1,5 @@
 // The parts of forms that stand before their operands: numbers and operators.
-ghost use Rattle.std.specs.Prelude.{◌≡◌, List, ◌∷◌, IfErr, IfOk, IsTrue};
+ghost use Rattle.std.specs.Prelude.{◌≡◌, ◌<◌, List, ◌∷◌, length, IfErr, IfOk, IsTrue, OnOk};
 ghost use Rattle.moa_tree.specs.Expected.{Want};
 ghost use Rattle.moa_tree.specs.Vocabulary.{Lexeme as Terminal, is_fold};
 ghost use Rattle.moa_reader.specs.Outcomes.{IsRefusedWith};
@@ -13,6 +13,7 @@ use moa_tree::Op;
 #[tactic(auto, using(crate::proofs::WantLemmas::number_taken, crate::proofs::WantLemmas::number_stuck))]
 pub(crate) fn count(source: &mut Source<'_>) -> Result<i64, ReadError>
     ensures taken { IfOk result (λ value. Takes source.old (Terminal.Number value) source.new) }
+    ensures fewer { OnOk result (length source.new.behind < length source.old.behind) }
     ensures refused { IfErr result (λ error. (wants : List Want) → IsRefusedWith (Want.ANumber ∷ wants) (all source.old) error) }
 {
     let Some(value) = source.lexeme().number() else {
@@ -26,6 +27,7 @@ pub(crate) fn count(source: &mut Source<'_>) -> Result<i64, ReadError>
 #[tactic(auto, using(crate::proofs::WantLemmas::operator_taken, crate::proofs::WantLemmas::operator_stuck))]
 pub(crate) fn operator(source: &mut Source<'_>) -> Result<Op, ReadError>
     ensures taken { IfOk result (λ op. Takes source.old (Terminal.Binary op) source.new) }
+    ensures fewer { OnOk result (length source.new.behind < length source.old.behind) }
     ensures refused { IfErr result (λ error. (wants : List Want) → IsRefusedWith (Want.AnOp ∷ wants) (all source.old) error) }
 {
     let Some(op) = source.lexeme().operator() else {
@@ -39,6 +41,7 @@ pub(crate) fn operator(source: &mut Source<'_>) -> Result<Op, ReadError>
 #[tactic(auto, using(crate::proofs::WantLemmas::fold_taken, crate::proofs::WantLemmas::fold_stuck))]
 pub(crate) fn fold(source: &mut Source<'_>) -> Result<Op, ReadError>
     ensures taken { IfOk result (λ op. Takes source.old (Terminal.Binary op) source.new) }
+    ensures fewer { OnOk result (length source.new.behind < length source.old.behind) }
     ensures folds { IfOk result (λ op. IsTrue (is_fold op)) }
     ensures refused { IfErr result (λ error. (wants : List Want) → IsRefusedWith (Want.AFold ∷ wants) (all source.old) error) }
 {

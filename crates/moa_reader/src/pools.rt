@@ -1,5 +1,5 @@
 // The pools of a program that is being read.
-ghost use Rattle.std.specs.Prelude.{◌≡◌, ◌+◌, ◌-◌, ◌≤◌, [], ◌∷◌, length, IfOk, OnOk};
+ghost use Rattle.std.specs.Prelude.{◌≡◌, ◌+◌, ◌-◌, ◌<◌, ◌≤◌, [], ◌∷◌, length, IfOk, OnOk};
 ghost use Rattle.shapes_core.specs.Limits.{most_items};
 ghost use Rattle.moa_tree.specs.Canonical.{canonical};
 ghost use Rattle.moa_tree.specs.Pool.{expr_of, trees};
@@ -7,9 +7,10 @@ ghost use Rattle.moa_tree.specs.Pools.{tree_of};
 ghost use Rattle.moa_tree.specs.Readings.{Reads};
 ghost use Rattle.moa_reader.specs.Build.{IsOpen, no_pools, with_node, with_numbers, with_statement};
 ghost use Rattle.moa_reader.specs.Frames.{tree_in};
+ghost use Rattle.moa_reader.specs.Rooms.{built};
 
 use moa_tree::{Node, Numbers, Program, Statement, Version, what_is_added};
-use shapes_core::{MOST_ITEMS, NoMemory};
+use shapes_core::NoMemory;
 use std::alloc::Global;
 use std::marker::Model;
 use text_tokens::Position;
@@ -37,8 +38,10 @@ impl Model for Builder {
 }
 
 impl Builder {
+    #[tactic(auto, using(crate::proofs::RoomLemmas::built_nothing))]
     pub(crate) fn new(alloc: Global, version: Version) -> Builder
-        ensures { result ≡ no_pools version }
+        ensures value { result ≡ no_pools version }
+        ensures nothing { built result ≡ 0 }
     {
         Builder {
             version,
@@ -51,16 +54,14 @@ impl Builder {
 
     /// Adds a node, and gives its number.
     pub(crate) fn node(&mut self, node: Node, at: Position) -> Result<u32, NoMemory>
+        requires { built self.old < most_items }
         ensures added { OnOk result (self.new ≡ with_node self.old node at) }
         ensures number { IfOk result (λ number. number ≡ length self.old.nodes) }
         ensures tree { IfOk result (λ number. tree_in self.new number ≡ expr_of self.old.numbers (trees self.old.numbers self.old.nodes) node) }
-        ensures few { OnOk result (length self.new.nodes ≤ most_items) }
+        ensures built { OnOk result (built self.new ≡ 1 + built self.old) }
     {
         what_is_added();
         let number = self.nodes.len();
-        if number >= MOST_ITEMS {
-            return Err(NoMemory);
-        }
         self.positions.push(at)?;
         self.nodes.push(node)?;
         Ok(number as u32)
@@ -76,11 +77,10 @@ impl Builder {
 
     /// Adds a number to the list that was begun last.
     pub(crate) fn number(&mut self, value: i64) -> Result<(), NoMemory>
+        requires { built self.old < most_items }
         ensures added { OnOk result (self.new ≡ with_numbers self.old (value ∷ [])) }
+        ensures built { OnOk result (built self.new ≡ 1 + built self.old) }
     {
-        if self.numbers.len() >= MOST_ITEMS {
-            return Err(NoMemory);
-        }
         self.numbers.push(value)?;
         Ok(())
     }
@@ -99,11 +99,10 @@ impl Builder {
     }
 
     pub(crate) fn statement(&mut self, statement: Statement) -> Result<(), NoMemory>
+        requires { built self.old < most_items }
         ensures added { OnOk result (self.new ≡ with_statement self.old statement) }
+        ensures built { OnOk result (built self.new ≡ 1 + built self.old) }
     {
-        if self.statements.len() >= MOST_ITEMS {
-            return Err(NoMemory);
-        }
         self.statements.push(statement)?;
         Ok(())
     }

@@ -1,5 +1,5 @@
 // A text with the lexeme that comes next.
-ghost use Rattle.std.specs.Prelude.{◌≡◌, ◌≢◌, ◌<◌, ◌≤◌, List, [], ◌∷◌, length, IfErr, IsTrue, OnErr, OnOk, Err};
+ghost use Rattle.std.specs.Prelude.{◌≡◌, ◌≢◌, ◌+◌, ◌<◌, ◌≤◌, List, [], ◌∷◌, length, IfErr, IsTrue, OnErr, OnOk, Err};
 ghost use Rattle.text_tokens.specs.Tokens.{start, tokens};
 ghost use Rattle.moa_tree.specs.Expected.{Want, cause_of, next, stuck};
 ghost use Rattle.moa_tree.specs.Refusals.{is_end};
@@ -12,6 +12,7 @@ use crate::error::ReadError;
 use crate::words::Lexeme;
 use moa_tree::Version;
 use std::marker::Model;
+use text_tokens::laws::tokens_are_few;
 use text_tokens::{Position, Scanner, Sign};
 
 /// The lexemes of a text that are not read yet, by the words of a version, of which the first is known.
@@ -35,8 +36,10 @@ impl<'a> Model for Source<'a> {
 impl<'a> Source<'a> {
     pub(crate) fn new(version: Version, text: &'a [u8]) -> Source<'a>
         requires { length text.now < 4294967295 }
-        ensures { all result ≡ placed version (tokens start text.now) }
+        ensures value { all result ≡ placed version (tokens start text.now) }
+        ensures few { length result.behind ≤ length text.now }
     {
+        tokens_are_few();
         let mut scanner = Scanner::new(text);
         let (token, at) = scanner.next_token();
         Source {
@@ -72,7 +75,8 @@ impl<'a> Source<'a> {
     /// Passes over it.
     pub(crate) fn advance(&mut self)
         requires { self.old.lexeme ≢ Terminal.End }
-        ensures { all self.new ≡ self.old.behind }
+        ensures value { all self.new ≡ self.old.behind }
+        ensures fewer { length self.old.behind ≡ 1 + length self.new.behind }
     {
         let (token, at) = self.scanner.next_token();
         self.lexeme = Lexeme::of(self.version, token);
@@ -99,6 +103,7 @@ impl<'a> Source<'a> {
     /// Passes over this sign, which is wanted next.
     pub(crate) fn sign(&mut self, sign: Sign, cause: u8) -> Result<(), ReadError>
         ensures taken { OnOk result (Takes self.old (Terminal.Sign sign) self.new) }
+        ensures fewer { OnOk result (length self.new.behind < length self.old.behind) }
         ensures other { OnErr result (self.old.lexeme ≢ Terminal.Sign sign) }
         ensures refused { IfErr result (λ error. (wants : List Want) → next wants self.old.lexeme ≡ stuck
             → cause_of wants self.old.lexeme ≡ cause → IsRefusedWith wants (all self.old) error) }

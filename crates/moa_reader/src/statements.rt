@@ -6,6 +6,7 @@ ghost use Rattle.moa_tree.specs.Refusals.{is_end};
 ghost use Rattle.moa_tree.specs.Vocabulary.{Lexeme as Terminal, version_number as number_of};
 ghost use Rattle.moa_reader.specs.Build.{IsOpen};
 ghost use Rattle.moa_reader.specs.Outcomes.{IsRefusedWith};
+ghost use Rattle.moa_reader.specs.Rooms.{HasRoom, Spends};
 ghost use Rattle.moa_reader.specs.Sources.{Takes, all};
 ghost use Rattle.moa_reader.specs.Statements.{ReadsDefinition, ReadsRest, ReadsStatements, ReadsVersion, word_of};
 
@@ -24,6 +25,7 @@ use text_tokens::{Position, Sign};
 /// Passes over `psi` and the number of a version.
 pub(crate) fn version_line(source: &mut Source<'_>) -> Result<(), ReadError>
     ensures read { OnOk result (ReadsVersion source.old source.new) }
+    ensures fewer { OnOk result (length source.new.behind < length source.old.behind) }
     ensures refused { IfErr result (λ error. IsRefusedWith at_start (all source.old) error) }
 {
     if !source.lexeme().is_psi() {
@@ -37,6 +39,7 @@ pub(crate) fn version_line(source: &mut Source<'_>) -> Result<(), ReadError>
 #[tactic(auto, using(crate::proofs::WantLemmas::version_taken, crate::proofs::WantLemmas::version_stuck))]
 fn version_number(source: &mut Source<'_>) -> Result<Version, ReadError>
     ensures taken { IfOk result (λ version. Takes source.old (Terminal.Number (number_of version)) source.new) }
+    ensures fewer { OnOk result (length source.new.behind < length source.old.behind) }
     ensures refused { IfErr result (λ error. (wants : List Want) → IsRefusedWith (Want.VersionNumber ∷ wants) (all source.old) error) }
 {
     let Some(version) = source.lexeme().version() else {
@@ -50,6 +53,7 @@ fn version_number(source: &mut Source<'_>) -> Result<Version, ReadError>
 #[tactic(auto, using(crate::proofs::WantLemmas::name_taken, crate::proofs::WantLemmas::name_stuck))]
 fn name(source: &mut Source<'_>) -> Result<Name, ReadError>
     ensures taken { IfOk result (λ name. Takes source.old (Terminal.Name name) source.new) }
+    ensures fewer { OnOk result (length source.new.behind < length source.old.behind) }
     ensures refused { IfErr result (λ error. (wants : List Want) → IsRefusedWith (Want.AName ∷ wants) (all source.old) error) }
 {
     let Some(name) = source.lexeme().name() else {
@@ -73,8 +77,10 @@ fn define(
     source: &mut Source<'_>,
     builder: &mut Builder,
 ) -> Result<Definition, ReadError>
-    requires { IsOpen [] [] builder.old }
+    requires open { IsOpen [] [] builder.old }
+    requires room { HasRoom 0 source.old builder.old }
     ensures read { IfOk result (λ definition. ReadsDefinition source.old builder.old definition.name definition.node source.new builder.new) }
+    ensures spent { OnOk result (Spends 0 source.old builder.old 1 source.new builder.new) }
     ensures stands { IfOk result (λ definition. definition.at ≡ source.old.at) }
     ensures refused { IfErr result (λ error. (wants : List Want) → is_stuck wants ≡ false
         → IsRefusedWith (Want.AName ∷ Want.AnEqual ∷ Want.AnExpr 1 ∷ wants) (all source.old) error) }
@@ -88,8 +94,10 @@ fn define(
 
 /// Reads an input behind its word.
 fn input(source: &mut Source<'_>, builder: &mut Builder) -> Result<(), ReadError>
-    requires { IsOpen [] [] builder.old }
+    requires open { IsOpen [] [] builder.old }
+    requires room { HasRoom 0 source.old builder.old }
     ensures read { OnOk result (ReadsRest Declaration.Input source.old builder.old source.new builder.new) }
+    ensures spent { OnOk result (Spends 0 source.old builder.old 0 source.new builder.new) }
     ensures refused { IfErr result (λ error. (wants : List Want) → IsRefusedWith (Want.AName ∷ wants) (all source.old) error) }
 {
     pools_keep();
@@ -104,8 +112,10 @@ fn input(source: &mut Source<'_>, builder: &mut Builder) -> Result<(), ReadError
 
 /// Reads a name for an expression behind its word.
 fn named(alloc: Global, source: &mut Source<'_>, builder: &mut Builder) -> Result<(), ReadError>
-    requires { IsOpen [] [] builder.old }
+    requires open { IsOpen [] [] builder.old }
+    requires room { HasRoom 0 source.old builder.old }
     ensures read { OnOk result (ReadsRest Declaration.Name source.old builder.old source.new builder.new) }
+    ensures spent { OnOk result (Spends 0 source.old builder.old 0 source.new builder.new) }
     ensures refused { IfErr result (λ error. (wants : List Want) → is_stuck wants ≡ false
         → IsRefusedWith (Want.AName ∷ Want.AnEqual ∷ Want.AnExpr 1 ∷ wants) (all source.old) error) }
 {
@@ -120,8 +130,10 @@ fn named(alloc: Global, source: &mut Source<'_>, builder: &mut Builder) -> Resul
 
 /// Reads an output behind its word.
 fn output(alloc: Global, source: &mut Source<'_>, builder: &mut Builder) -> Result<(), ReadError>
-    requires { IsOpen [] [] builder.old }
+    requires open { IsOpen [] [] builder.old }
+    requires room { HasRoom 0 source.old builder.old }
     ensures read { OnOk result (ReadsRest Declaration.Output source.old builder.old source.new builder.new) }
+    ensures spent { OnOk result (Spends 0 source.old builder.old 0 source.new builder.new) }
     ensures refused { IfErr result (λ error. (wants : List Want) → is_stuck wants ≡ false
         → IsRefusedWith (Want.AName ∷ Want.AnEqual ∷ Want.AnExpr 1 ∷ wants) (all source.old) error) }
 {
@@ -141,8 +153,10 @@ fn rest(
     builder: &mut Builder,
     what: Declaration,
 ) -> Result<(), ReadError>
-    requires { IsOpen [] [] builder.old }
+    requires open { IsOpen [] [] builder.old }
+    requires room { HasRoom 0 source.old builder.old }
     ensures read { OnOk result (ReadsRest what source.old builder.old source.new builder.new) }
+    ensures spent { OnOk result (Spends 0 source.old builder.old 0 source.new builder.new) }
     ensures refused { IfErr result (λ error. (seen : Bool) → IsRefusedWith (on_items seen [] (word_of what)) (all source.old) error) }
 {
     match what {
@@ -162,7 +176,9 @@ pub(crate) fn statement(
 ) -> Result<bool, ReadError>
     requires made { IsOpen [] [] builder.old }
     requires more { is_end source.old.lexeme ≡ false }
+    requires room { HasRoom 0 source.old builder.old }
     ensures read { IfOk result (λ later. ReadsStatements has_output source.old builder.old later source.new builder.new) }
+    ensures spent { OnOk result (Spends 0 source.old builder.old 0 source.new builder.new) }
     ensures fewer { OnOk result (length source.new.behind < length source.old.behind) }
     ensures refused { IfErr result (λ error. IsRefusedWith (Want.Items has_output ∷ []) (all source.old) error) }
 {
@@ -181,7 +197,8 @@ pub(crate) fn statements(
     source: &mut Source<'_>,
     builder: &mut Builder,
 ) -> Result<(), ReadError>
-    requires { IsOpen [] [] builder.old }
+    requires open { IsOpen [] [] builder.old }
+    requires room { HasRoom 0 source.old builder.old }
     ensures read { OnOk result (ReadsStatements false source.old builder.old true source.new builder.new) }
     ensures ended { OnOk result ((is_end source.new.lexeme ≡ true) × (source.new.behind ≡ [])) }
     ensures refused { IfErr result (λ error. IsRefusedWith (Want.Items false ∷ []) (all source.old) error) }

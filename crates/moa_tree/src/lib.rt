@@ -6,8 +6,6 @@ mod pool_laws;
 mod program;
 mod reading_examples;
 mod reading_laws;
-#[cfg(test)]
-mod tests;
 mod tree;
 mod tree_examples;
 mod tree_laws;

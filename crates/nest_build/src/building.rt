@@ -74,6 +74,9 @@ fn finished(alloc: Global, lists: Lists, steps: Vec<Step>) -> Result<Nest, NoMem
     ensures { IfOk result (λ nest. tree nest ≡ tree_in lists steps.items) }
 {
     let mut made = lists;
+    if made.is_full() {
+        return Err(NoMemory);
+    }
     made.add(steps)?;
     let nest = made.into_nest(alloc)?;
     Ok(nest)

@@ -76,6 +76,9 @@ fn around(
 {
     let mut list = inside;
     push_walks(&mut list, stands, axis.var, 1)?;
+    if lists.is_full() {
+        return Err(NoMemory);
+    }
     let body = lists.add(list)?;
     let mut steps = Vec::new(alloc);
     steps.push(Step::For {

@@ -10,8 +10,6 @@ mod normal;
 mod region;
 mod strides;
 mod term;
-#[cfg(test)]
-mod tests;
 
 pub use entry::{Entries, Entry};
 pub use normal::Normal;

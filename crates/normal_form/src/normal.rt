@@ -1,11 +1,13 @@
 // The form of a job.
-ghost use Rattle.std.specs.Prelude.{◌≡◌, ◌<◌, ◌+◌, ◌↔◌, IsTrue, [], length, slice_get, Some};
-ghost use Rattle.normal_form.specs.Kept.{IsForm};
+ghost use Rattle.std.specs.Prelude.{◌≡◌, ◌<◌, ◌+◌, ◌↔◌, IsTrue, [], length, map, slice_get, Some};
+ghost use Rattle.shapes_core.specs.Shape.{total};
+ghost use Rattle.normal_form.specs.Kept.{IsFoldJob, IsForm};
 
 use crate::region::Region;
 use crate::term::Term;
 use moa_tree::Job;
 use shapes_core::Shape;
+use std::alloc::Global;
 use std::marker::Model;
 
 /// The values of one job on a region, a box of index vectors of its shape, as a term over stored arrays. Variable j below the
@@ -41,6 +43,17 @@ impl Normal {
             region,
             terms,
         }
+    }
+
+    /// The empty form of a job whose array has no element. Its region is the whole shape. It takes no memory.
+    pub fn none(alloc: Global, job: Job, shape: Shape) -> Normal
+        requires none { total shape ≡ 0 }
+        requires folds { IsFoldJob job.fold shape }
+        ensures { result ≡ record { job = job; shape = shape; region = map (λ n. (0, n)) shape; terms = [] } }
+    {
+        let _extents = shape.extents();
+        let region = Region::whole(&shape);
+        Normal::new(job, shape, region, Vec::new(alloc))
     }
 
     /// The job, by the number of its area, its node and the operator that it folds by.

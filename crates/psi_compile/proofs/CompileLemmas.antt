@@ -1,7 +1,7 @@
 -- What is made for a checked program, and the text that spells it.
-use Rattle.std.proofs.Common.{◌≡◌, ℕ, ◌*◌, ◌^◌, ◌≤◌, List, length, map, sym, subst, ap, ◌∙◌, arith}
+use Rattle.std.proofs.Common.{◌≡◌, ℕ, ◌*◌, ◌^◌, ◌≤◌, List, [], ◌∷◌, length, map, sym, subst, ap, ◌∙◌, arith}
 use Rattle.std.specs.Prelude.{Err, IfOk, IsOk, IsTrue, Ok, Result}
-use Rattle.std.specs.List.{list_all, zip}
+use Rattle.std.specs.List.{AllByRecursion, list_all, zip}
 use Rattle.std.proofs.lemmas.List.{length-map}
 use Rattle.shapes_core.specs.Limits.{greatest_size, greatest_work}
 use Rattle.loop_ir.specs.declared.step.Step.{Step}
@@ -11,11 +11,12 @@ use Rattle.moa_tree.specs.Expr.{Tree}
 use Rattle.moa_tree.specs.Readings.{Reads}
 use Rattle.nest_jobs.specs.Leads.{nests}
 use Rattle.nest_jobs.specs.Plain.{ArePlain}
+use Rattle.register_map.specs.Fits.{IsFit}
 use Rattle.register_map.specs.Homes.{Given}
 use Rattle.rv_emit.specs.Emitting.{program}
 use Rattle.rv_emit.specs.Pricing.{is_base_op, total_cost, total_time}
 use Rattle.rv_emit.specs.Programs.{most_spill}
-use Rattle.rv_emit.specs.Simulating.{AreReady, is_steady_op}
+use Rattle.rv_emit.specs.Simulating.{AreHomed, AreReady, is_steady_op}
 use Rattle.rv_line.specs.declared.assembly.Header.{Header}
 use Rattle.rv_line.specs.declared.line.Line.{Line}
 use Rattle.rv_line.specs.Emitted.{as_emitted}
@@ -33,6 +34,7 @@ use Rattle.psi_compile.specs.Assigned.{AreAssigned, IsAssigned}
 use Rattle.psi_compile.specs.Compiled.{IsCompiled, UsesOnly}
 use Rattle.psi_compile.specs.Demands.{denoted}
 use Rattle.psi_compile.proofs.MadeLemmas.{zip-length}
+use Rattle.psi_compile.proofs.NestLemmas.{homed-of}
 
 -- ---- the laws
 
@@ -63,15 +65,15 @@ abbrev pub WorksAreSmall : Type 0
 WorksAreSmall = (text : List ℕ) (tree : Tree) → Reads text tree → IsOk (verdict_of tree.statements) → work tree.statements ≤ greatest_work
 
 abbrev pub ProgramsHaveLines : Type 0
-ProgramsHaveLines = (nests : List (Steps × Given)) (spill : ℕ) → AreReady spill nests → spill ≤ 8192
+ProgramsHaveLines = (nests : List (Steps × Given)) (spill : ℕ) → AreHomed spill nests → spill ≤ 8192
     → length (program spill nests 0).lines ≤ total_cost nests
 
 abbrev pub ProgramsMakeSteps : Type 0
-ProgramsMakeSteps = (nests : List (Steps × Given)) (spill : ℕ) → AreReady spill nests → spill ≤ 8192
+ProgramsMakeSteps = (nests : List (Steps × Given)) (spill : ℕ) → AreHomed spill nests → spill ≤ 8192
     → (program spill nests 0).steps ≤ total_time nests
 
 abbrev pub LinesAreFree : Type 0
-LinesAreFree = (nests : List (Steps × Given)) (spill : ℕ) → AreReady spill nests → IsTrue (list_all is_free (program spill nests 0).lines)
+LinesAreFree = (nests : List (Steps × Given)) (spill : ℕ) → AreHomed spill nests → IsTrue (list_all is_free (program spill nests 0).lines)
 
 abbrev pub ProgramsServe : Type 0
 ProgramsServe = (text : List ℕ) (tree : Tree) (homes : List Given) (header : Header) (lines : List Line) (base : ℕ) (c : Config)
@@ -109,6 +111,10 @@ pub record Laws : Type 0 where
 
 -- ---- what is made of nests with homes
 
+fit-of : (spill : ℕ) (nests : List (Steps × Given)) → AreHomed spill nests → AllByRecursion (λ nest. IsFit nest.0 nest.1) nests
+fit-of spill [] homed = tt
+fit-of spill (nest ∷ nests) homed = (homed.0.fit, fit-of spill nests homed.1)
+
 -- the same nests and the same homes, under other names
 pub given-too : (made one other : List (List (List Step))) (homes theirs : List Given) → one ≡ made → other ≡ made → theirs ≡ homes
     → AreAssigned (map tree_of_nest one) homes → AreAssigned (map tree_of_nest other) theirs
@@ -124,8 +130,12 @@ module _ (laws : Laws) (source : List ℕ) (tree : Tree) (reads : Reads source t
   assigned : AreAssigned (nests tree.statements) homes
   assigned = subst (λ t. AreAssigned t homes) same given
 
-  pub ready : AreReady (most_spill homes) (zip trees homes)
-  ready = subst (λ t. AreReady (most_spill homes) (zip t homes)) (sym same) (laws.ready source tree homes reads accepted plain assigned)
+  ready : AreHomed (most_spill homes) (zip trees homes)
+  ready = homed-of (most_spill homes) (zip trees homes)
+      (subst (λ t. AreReady (most_spill homes) (zip t homes)) (sym same) (laws.ready source tree homes reads accepted plain assigned))
+
+  pub fit : AllByRecursion (λ nest. IsFit nest.0 nest.1) (zip trees homes)
+  fit = fit-of (most_spill homes) (zip trees homes) ready
 
   few : total_cost (zip trees homes) ≤ 240 * size tree.statements
   few = subst (λ t. total_cost (zip t homes) ≤ 240 * size tree.statements) (sym same)

@@ -2,7 +2,7 @@
 use Rattle.std.proofs.Common.{◌≡◌, ℕ, zero, suc, ◌+◌, ◌≤◌, ◌<◌, List, [], ◌∷◌, ◌++◌, length, map, take, get_or, refl, ap, sym, ◌∙◌, subst}
 use Rattle.std.proofs.Common.{arith, None, Some}
 use Rattle.std.specs.Prelude.{IfOk, Option, Result, slice_get}
-use Rattle.std.specs.List.{AllZip}
+use Rattle.std.specs.List.{AllByRecursion, AllZip}
 use Rattle.std.specs.Option.{option_map}
 use Rattle.std.proofs.lemmas.List.{length-map, map-append, take_all, take_more}
 use Rattle.std.proofs.lemmas.Option.{get_or_from_slice_get, none-some, same_Some, slice_get-map, slice_get_within}
@@ -123,6 +123,13 @@ zip-length P [] [] h = refl
 zip-length P (a ∷ xs) [] h = elim h [ ]
 zip-length P [] (b ∷ ys) h = elim h [ ]
 zip-length P (a ∷ xs) (b ∷ ys) h = ap suc (zip-length P xs ys h.1)
+
+-- what holds of each tree holds of the tree at a place
+pub tree-at : (P : Steps → Type 0) (items : List (List (List Step))) (i : ℕ) (d : List (List Step)) → i < length items
+    → AllByRecursion P (map tree items) → P (tree (get_or items i d))
+tree-at P [] i d within h = absurd (omega (arith, within))
+tree-at P (nest ∷ items) zero d within h = h.0
+tree-at P (nest ∷ items) (suc i) d within h = tree-at P items i d (omega (arith, within)) h.1
 
 -- homes of one nest more
 pub home-more : (items : List (List (List Step))) (i : ℕ) (nest : List (List Step)) → nest ≡ get_or items i nest → i < length items

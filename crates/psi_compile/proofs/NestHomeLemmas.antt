@@ -1,5 +1,5 @@
 -- The spill words of one nest are few, and prices are low.
-use Rattle.std.specs.Prelude.{◌≡◌, ◌⊎◌, ℕ, suc, ◌+◌, ◌*◌, ◌<◌, ◌≤◌, nat_lt, Bool, true, false, ℤ, FitsSigned, List, [], ◌∷◌, length, Some, if◌then◌else◌}
+use Rattle.std.specs.Prelude.{◌≡◌, ◌⊎◌, ℕ, suc, ◌+◌, ◌*◌, ◌^◌, ◌<◌, ◌≤◌, nat_lt, Bool, true, false, ℤ, FitsSigned, List, [], ◌∷◌, length, Some, if◌then◌else◌}
 use Rattle.std.specs.Int.{w32}
 use Rattle.std.specs.List.{AllByRecursion, Contains, range_with_len}
 use Rattle.std.specs.declared.option.Option.{Option}
@@ -21,8 +21,8 @@ use Rattle.nest_build.specs.Nests.{nest_of}
 use Rattle.psi_compile.specs.Assigned.{IsAssigned}
 use Rattle.register_map.specs.declared.home.Home.{Home}
 use Rattle.register_map.specs.declared.home.Home.TheVariants as home
-use Rattle.register_map.specs.Fits.{IsRanked}
-use Rattle.register_map.specs.Homes.{Given, code, home_of}
+use Rattle.register_map.specs.Fits.{IsRanked, NamesFew}
+use Rattle.register_map.specs.Homes.{Given, code, home_of, number_of}
 use Rattle.rv_emit.specs.Moving.{is_near}
 use Rattle.rv_emit.specs.Pricing.{prices_of, width_of}
 use Rattle.rv_steps.specs.Constants.{constant_lines}
@@ -55,13 +55,22 @@ each-key : (P Q : Key → Type 0) → ((key : Key) → P key → Q key) → (lis
 each-key P Q f [] h = tt
 each-key P Q f (key ∷ list) h = (f key h.0, each-key P Q f list h.1)
 
-named-follows : (P Q : Key → Type 0) → ((key : Key) → P key → Q key) → (steps : Steps) → EachNamed P steps → EachNamed Q steps
+pub named-follows : (P Q : Key → Type 0) → ((key : Key) → P key → Q key) → (steps : Steps) → EachNamed P steps → EachNamed Q steps
 named-follows P Q f End h = tt
 named-follows P Q f (Then action rest) h = (each-key P Q f (named action) h.0, named-follows P Q f rest h.1)
 named-follows P Q f (For counter turns body rest) h =
     (f (Register counter) h.0, (named-follows P Q f body h.1.0, named-follows P Q f rest h.1.1))
 named-follows P Q f (If left below one other rest) h =
     (f (Register left) h.0, (named-follows P Q f one h.1.0, (named-follows P Q f other h.1.1.0, named-follows P Q f rest h.1.1.1)))
+
+-- ---- numbers
+
+pub test-names : (nest : Steps) → EachNamed (λ key. nat_lt (number_of key) (2 ^ 30) ≡ true) nest → NamesFew nest
+test-names nest h =
+    named-follows (λ key. nat_lt (number_of key) (2 ^ 30) ≡ true) (λ key. number_of key < 2 ^ 30)
+    (λ key e. (Decides-ltb (number_of key) (2 ^ 30)).0 e) nest h
+
+-- ---- words of homes
 
 -- a spill word is at most so many as there are codes
 ranked-few : (codes : List ℕ) (given : Given) (most : ℕ) → length codes ≡ most → IsRanked codes given
@@ -83,7 +92,7 @@ spill-few nest given most assigned named =
     (λ key e. below-contained most (code key) e) nest named))
     assigned.homes.least
 
--- ---- the spill words of a job's nest
+-- ---- the names and the spill words of a job's nest
 
 abbrev pub NameLaw : Type 0
 NameLaw = (keys : Keys) (areas : List Area) (own : ℕ) (shape : List ℕ) (region : List (ℕ × ℕ)) (form : Operational)
@@ -91,6 +100,13 @@ NameLaw = (keys : Keys) (areas : List Area) (own : ℕ) (shape : List ℕ) (regi
     → ((number : ℕ) → number < 6 + terms form → keys (Register number) ≡ true)
     → ((number : ℕ) → number < 7 + 2 * terms form → keys (Pointer number) ≡ true)
     → EachNamed (λ key. keys key ≡ true) (nest_of areas own shape region form)
+
+pub job-names : NameLaw → (areas : List Area) (own : ℕ) (shape : List ℕ) (region : List (ℕ × ℕ)) (form : Operational)
+    → IsBuildable areas own shape region form → terms form ≤ 1024 → NamesFew (nest_of areas own shape region form)
+job-names law areas own shape region form built few =
+    test-names (nest_of areas own shape region form) (law (λ key. nat_lt (number_of key) (2 ^ 30)) areas own shape region form built
+    (λ number under. (Decides-ltb number (2 ^ 30)).1 (omega (arith, under, few)))
+    (λ number under. (Decides-ltb number (2 ^ 30)).1 (omega (arith, under, few))))
 
 pub job-spill : NameLaw → (areas : List Area) (own : ℕ) (shape : List ℕ) (region : List (ℕ × ℕ)) (form : Operational) (given : Given)
     → IsBuildable areas own shape region form → IsAssigned (nest_of areas own shape region form) given → given.spill ≤ 8 * (2 + terms form)

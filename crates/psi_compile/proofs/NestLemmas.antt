@@ -20,11 +20,12 @@ use Rattle.nest_build.specs.Nests.{nest_of}
 use Rattle.nest_jobs.specs.Sizes.{form_size, form_sizes, form_work, form_works}
 use Rattle.nest_jobs.specs.Sources.{AreNestsOf, IsNestOf}
 use Rattle.psi_compile.specs.Assigned.{IsAssigned}
+use Rattle.register_map.specs.Fits.{NamesFew}
 use Rattle.register_map.specs.Homes.{Given, code}
 use Rattle.rv_emit.specs.Pricing.{prices_of}
 use Rattle.rv_emit.specs.Programs.{most_spill}
-use Rattle.rv_emit.specs.Simulating.{AreReady, IsReady}
-use Rattle.psi_compile.proofs.NestHomeLemmas.{NameLaw, job-spill, spill-few}
+use Rattle.rv_emit.specs.Simulating.{AreHomed, AreReady, IsReady}
+use Rattle.psi_compile.proofs.NestHomeLemmas.{NameLaw, job-names, job-spill, spill-few}
 use Rattle.psi_compile.proofs.NestShapeLemmas.{CalmLaws, Passing, nest-calm}
 
 -- ---- ready
@@ -34,9 +35,7 @@ one-ready : CalmLaws → (areas : List Area) (form : Option Normal) (shape : Lis
 one-ready laws areas form shape nest given spill of pass assigned within =
     let calm = nest-calm laws areas form shape nest of pass in
     record {
-      given = assigned.homes;
-      within = within;
-      fit = assigned.fit;
+      homed = record { given = assigned.homes; within = within; fit = assigned.fit };
       counters = calm.counters;
       sets = calm.sets;
       tests = calm.tests;
@@ -58,6 +57,30 @@ all-ready laws areas (form ∷ forms) (array ∷ arrays) (nest ∷ nests) (given
 all-ready laws areas [] [] [] (given ∷ homes) spill of pass assigned within = absurd assigned
 all-ready laws areas (form ∷ forms) (array ∷ arrays) (nest ∷ nests) [] spill of pass assigned within = absurd assigned
 all-ready laws areas _ _ _ _ spill of pass assigned within = absurd of
+
+pub homed-of : (spill : ℕ) (nests : List (Steps × Given)) → AreReady spill nests → AreHomed spill nests
+homed-of spill [] ready = tt
+homed-of spill (nest ∷ nests) ready = (ready.0.homed, homed-of spill nests ready.1)
+
+-- ---- names
+
+one-few : NameLaw → (areas : List Area) (form : Option Normal) (shape : List ℕ) (nest : Steps) → IsNestOf areas form shape nest
+    → form_size form ≤ 1024 → NamesFew nest
+one-few law areas None shape nest same within = subst NamesFew (sym same) tt
+one-few law areas (Some form) shape nest of within =
+    let region : List (ℕ × ℕ) = map (λ n. (0, n)) shape in
+    subst NamesFew (sym of.1) (job-names law areas of.0 shape region (operational form) of.2 (omega (arith, within)))
+
+both-few : (a b : ℕ) → a + b ≤ 1024 → (a ≤ 1024) × (b ≤ 1024)
+both-few a b h = (omega (arith, h), omega (arith, h))
+
+pub all-few : NameLaw → (areas : List Area) (forms : List (Option Normal)) (arrays : List Array) (nests : List Steps)
+    → AreNestsOf areas forms arrays nests → form_sizes forms ≤ 1024 → AllByRecursion NamesFew nests
+all-few law areas [] [] [] of within = tt
+all-few law areas (form ∷ forms) (array ∷ arrays) (nest ∷ nests) of within =
+    let parts = both-few (form_size form) (form_sizes forms) within in
+    (one-few law areas form array.shape nest of.0 parts.0, all-few law areas forms arrays nests of.1 parts.1)
+all-few law areas _ _ _ of within = absurd of
 
 -- ---- spill words
 

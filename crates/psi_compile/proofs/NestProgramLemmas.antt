@@ -1,5 +1,5 @@
 -- What the laws below say of a program that reads and is accepted.
-use Rattle.std.specs.Prelude.{◌≡◌, ◌^◌, ◌≤◌, ℕ, suc, ℤ, Bool, true, pos, IsOk, IsTrue, List, [], ◌∷◌, Ok, Err, Result, slice_get}
+use Rattle.std.specs.Prelude.{◌≡◌, ◌≤◌, ℕ, suc, ℤ, Bool, true, pos, IsOk, IsTrue, List, [], ◌∷◌, Ok, Err, Result, slice_get}
 use Rattle.std.specs.List.{AllByRecursion}
 use Rattle.std.specs.declared.option.Option.{Option}
 use Rattle.std.specs.declared.option.Option.TheVariants.{None, Some}

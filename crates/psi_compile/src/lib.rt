@@ -2,6 +2,7 @@
 #![tactic(auto)]
 
 mod built;
+pub mod compiled_examples;
 mod compiler;
 pub mod demand_examples;
 mod error;
@@ -9,8 +10,6 @@ pub mod laws;
 pub mod nest_laws;
 mod nests;
 pub mod serve_laws;
-#[cfg(test)]
-mod tests;
 
 pub use built::built_program;
 pub use compiler::compile;

@@ -1,5 +1,5 @@
 // Laws of the nests of a program that is compiled, as clauses of functions that do nothing.
-ghost use Rattle.std.specs.List.{zip};
+ghost use Rattle.std.specs.List.{AllByRecursion, zip};
 ghost use Rattle.std.specs.Prelude.{◌*◌, ◌^◌, ◌≤◌, ℕ, IsOk, List};
 ghost use Rattle.shapes_core.specs.Limits.{greatest_size, greatest_work};
 ghost use Rattle.moa_tree.specs.Expr.{Tree};
@@ -7,6 +7,7 @@ ghost use Rattle.moa_tree.specs.Readings.{Reads};
 ghost use Rattle.nest_jobs.specs.Leads.{nests};
 ghost use Rattle.nest_jobs.specs.Plain.{ArePlain};
 ghost use Rattle.psi_compile.specs.Assigned.{AreAssigned};
+ghost use Rattle.register_map.specs.Fits.{NamesFew};
 ghost use Rattle.register_map.specs.Homes.{Given};
 ghost use Rattle.rv_emit.specs.Pricing.{total_cost, total_time};
 ghost use Rattle.rv_emit.specs.Programs.{most_spill};
@@ -38,7 +39,7 @@ pub fn nests_are_ready()
 }
 
 /// They keep the bounds of an accepted program: 240 lines and 8 spill words a unit of size, and
-/// 1024 steps a unit of work.
+/// 1024 steps a unit of work; and they name registers and places by small numbers.
 pub fn nests_are_small()
     ensures lines { (text : List ℕ) (tree : Tree) (homes : List Given)
         → Reads text tree → IsOk (verdict_of tree.statements) → ArePlain tree.statements
@@ -52,6 +53,9 @@ pub fn nests_are_small()
         → Reads text tree → IsOk (verdict_of tree.statements) → ArePlain tree.statements
         → AreAssigned (nests tree.statements) homes
         → total_time (zip (nests tree.statements) homes) ≤ 1024 * work tree.statements }
+    ensures names { (text : List ℕ) (tree : Tree) → Reads text tree
+        → IsOk (verdict_of tree.statements) → ArePlain tree.statements
+        → AllByRecursion NamesFew (nests tree.statements) }
     ensures size { (text : List ℕ) (tree : Tree) → Reads text tree
         → IsOk (verdict_of tree.statements) → size tree.statements ≤ greatest_size }
     ensures work { (text : List ℕ) (tree : Tree) → Reads text tree

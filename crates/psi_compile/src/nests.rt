@@ -4,7 +4,9 @@ ghost use Rattle.loop_ir.specs.Pool.{tree};
 ghost use Rattle.nest_jobs.specs.Leads.{nests};
 ghost use Rattle.psi_compile.specs.Assigned.{AreAssigned, IsAssigned};
 ghost use Rattle.psi_rules.specs.Tables.{AreTables};
+ghost use Rattle.register_map.specs.Fits.{NamesFew};
 ghost use Rattle.shape_check.specs.Judged.{items_in};
+ghost use Rattle.std.specs.List.{AllByRecursion};
 
 use loop_ir::Nest;
 use nest_build::build;
@@ -28,13 +30,6 @@ fn nest_of(alloc: Global, checked: &Checked, tables: &Tables, job: u32) -> Resul
     build(alloc, &form, layout_of(checked))
 }
 
-/// How many jobs a checked program has.
-fn job_count(checked: &Checked) -> Result<u32, NoMemory>
-    ensures { IfOk result (λ count. count ≡ length checked.now.jobs) }
-{
-    u32::try_from(checked.jobs().len()).map_err(|_| NoMemory)
-}
-
 /// The nests of a checked program, one for each job, in order.
 pub fn nests_of(alloc: Global, checked: &Checked) -> Result<Vec<Nest>, NoMemory>
     ensures { IfOk result (λ made. map tree made.items ≡ nests (items_in checked.now.pools)) }
@@ -42,7 +37,7 @@ pub fn nests_of(alloc: Global, checked: &Checked) -> Result<Vec<Nest>, NoMemory>
     let mut made = Vec::new(alloc);
     let _program = checked.program();
     let tables = tables_of(alloc, checked)?;
-    let count = job_count(checked)?;
+    let count = checked.job_count();
     for job in 0..count {
         made.push(nest_of(alloc, checked, &tables, job)?)?;
     }
@@ -51,6 +46,7 @@ pub fn nests_of(alloc: Global, checked: &Checked) -> Result<Vec<Nest>, NoMemory>
 
 /// Homes for the registers and places of a nest.
 fn homes_for(alloc: Global, nest: &Nest) -> Result<Homes, NoMemory>
+    requires { NamesFew (tree nest.now) }
     ensures { IfOk result (λ homes. IsAssigned (tree nest.now) homes) }
 {
     let homes = assign(alloc, nest)?;
@@ -60,6 +56,7 @@ fn homes_for(alloc: Global, nest: &Nest) -> Result<Homes, NoMemory>
 
 /// Homes for the registers and places of each of these nests, in order.
 pub(crate) fn homes_of(alloc: Global, nests: &[Nest]) -> Result<Vec<Homes>, NoMemory>
+    requires { AllByRecursion NamesFew (map tree nests.now) }
     ensures { IfOk result (λ made. AreAssigned (map tree nests.now) made.items) }
 {
     let mut made = Vec::new(alloc);

@@ -4,6 +4,8 @@ use Rattle.std.proofs.lemmas.List.{take-append-drop, length-take-le}
 use Rattle.std.proofs.Math.Seq.{take-append-add}
 use Rattle.std.specs.Prelude.{Option, Some, None, IsSomeAnd}
 use Rattle.std.specs.FinMap.{get}
+use Rattle.psi_edges.specs.Calls.{AreAsked, IsAsked}
+use Rattle.psi_edges.specs.Calls.AreAsked.{more, none}
 use Rattle.psi_edges.specs.Files.{Files, OnFile, IsNext}
 
 -- where a shelf tells its files, these bytes, if there are any, are the front of the file of this name
@@ -40,3 +42,11 @@ next_front (Some files) name old count new front next = next_of (get files name)
 -- after one more piece, from a shelf that tells the same files, the bytes are a front still
 pub front_next : (told now : Option Files) (name old : List ℕ) (count : ℕ) (new : List ℕ) → now ≡ told → IsFront told name old → OnFile now name (λ file. IsNext file old count new) → OnFile told name (λ file. new ≡ take (length new) file)
 front_next told now name old count new same front next = next_front told name old count new front (subst (λ t. OnFile t name (λ file. IsNext file old count new)) same next)
+
+-- no call was given no bytes
+pub none_asked : {T : Type 0} (takes : T → T → ℕ → ℕ → ℕ → Type 0) (most : ℕ) (from : T) (now : ℕ) → now ≡ 0 → AreAsked takes most from now from
+none_asked takes most from now e = subst (λ n. AreAsked takes most from n from) (sym e) none
+
+-- one more call, after which there are so many bytes
+pub asked_more : {T : Type 0} (takes : T → T → ℕ → ℕ → ℕ → Type 0) (most : ℕ) (from between to : T) (at given now : ℕ) → AreAsked takes most from at between → IsAsked takes most at between given to → at + given ≡ now → AreAsked takes most from now to
+asked_more takes most from between to at given now asked one e = subst (λ n. AreAsked takes most from n to) e (more asked one)

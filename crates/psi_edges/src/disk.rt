@@ -67,6 +67,8 @@ impl<'a, R: Files> Shelf for DiskShelf<'a, R> {
 
     ghost given = { λ s. s.given };
 
+    ghost takes = { λ _ _ _ _ _. Unit {0} };
+
     fn take(&mut self, name: &str, at: u64, into: &mut [u8]) -> Result<usize, Failed>
         requires short_name { length name.now ≤ longest_name }
         requires near { at ≤ 2 ^ 32 }

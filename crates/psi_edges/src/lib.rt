@@ -15,12 +15,10 @@ mod shelf;
 mod sink;
 mod standard;
 mod tally;
-#[cfg(test)]
-mod tests;
 mod whole;
 
 pub use disk::DiskShelf;
-pub use examples::cause_examples;
+pub use examples::{call_examples, cause_examples};
 pub use failed::Failed;
 pub use limits::LONGEST_NAME;
 pub use memory_shelf::MemoryShelf;

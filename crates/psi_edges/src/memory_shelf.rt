@@ -69,10 +69,8 @@ impl MemoryShelf {
         ensures ok { OnOk result (self.new ≡ record self.old { failing = self.old.failing ++ call ∷ [] }) }
         ensures err { OnErr result (self.new ≡ self.old) }
     {
-        match self.failing.push(call) {
-            Ok(()) => Ok(()),
-            Err(_) => Err(NoMemory),
-        }
+        self.failing.push(call)?;
+        Ok(())
     }
 }
 
@@ -84,6 +82,8 @@ impl Shelf for MemoryShelf {
     ghost failed_name = { λ s. s.failed_name };
 
     ghost given = { λ s. s.given };
+
+    ghost takes = { λ _ _ _ _ _. Unit {0} };
 
     fn take(&mut self, name: &str, at: u64, into: &mut [u8]) -> Result<usize, Failed>
         requires short_name { length name.now ≤ longest_name }
@@ -133,16 +133,10 @@ fn insert_copy(
         (files_of entries.new.entries ≡ insert (files_of entries.old.entries) name.now bytes.now) }
     ensures err { OnErr result (entries.new.entries ≡ entries.old.entries) }
 {
-    let Ok(key) = String::from_str(alloc, name) else {
-        return Err(NoMemory);
-    };
-    let Ok(file) = Vec::from_slice(alloc, bytes) else {
-        return Err(NoMemory);
-    };
-    match entries.insert(key, file) {
-        Ok(_) => Ok(()),
-        Err(_) => Err(NoMemory),
-    }
+    let key = String::from_str(alloc, name)?;
+    let file = Vec::from_slice(alloc, bytes)?;
+    entries.insert(key, file)?;
+    Ok(())
 }
 
 /// The file of this name.

@@ -48,17 +48,15 @@ impl MemorySink {
         requires { 1 ≤ piece }
         ensures { IfOk result (λ sink. sink ≡ empty_sink room piece) }
     {
-        match Vec::with_capacity(alloc, room as usize) {
-            Err(_) => Err(NoMemory),
-            Ok(bytes) => Ok(MemorySink {
-                bytes,
-                room,
-                piece,
-                failing: Vec::new(alloc),
-                calls: 0,
-                faults: 0,
-            }),
-        }
+        let bytes = Vec::with_capacity(alloc, room as usize)?;
+        Ok(MemorySink {
+            bytes,
+            room,
+            piece,
+            failing: Vec::new(alloc),
+            calls: 0,
+            faults: 0,
+        })
     }
 
     /// Makes the `put` of this number fail. The first is 1, and numbers stay at 2^64 - 1 once that is reached.
@@ -66,10 +64,8 @@ impl MemorySink {
         ensures ok { OnOk result (self.new ≡ record self.old { failing = self.old.failing ++ call ∷ [] }) }
         ensures err { OnErr result (self.new ≡ self.old) }
     {
-        match self.failing.push(call) {
-            Ok(()) => Ok(()),
-            Err(_) => Err(NoMemory),
-        }
+        self.failing.push(call)?;
+        Ok(())
     }
 
     /// The bytes that were put.
@@ -85,6 +81,8 @@ impl Sink for MemorySink {
     ghost held = { λ s. Some s.held };
 
     ghost faults = { λ s. s.faults };
+
+    ghost puts = { λ _ _ _ _. Unit {0} };
 
     fn put(&mut self, bytes: &[u8]) -> Result<usize, Failed>
         requires { 0 < length bytes.now }

@@ -20,6 +20,10 @@ pub trait Shelf {
     /// How many bytes were given in all, which stays at 2^64 - 1 once that is reached.
     ghost given: { Self → ℕ };
 
+    /// That a call led from one state to another: from this byte on, with this much room, and so many bytes given,
+    /// which are none where it failed. So a caller over any shelf can say which calls it makes.
+    ghost takes: { Self → Self → ℕ → ℕ → ℕ → Type 0 };
+
     /// Copies bytes of the file `name`, from byte `at` on, into the front of `into`, and answers how many.
     /// `Ok(0)` says that the file ends at `at` or before. A name that the shelf lacks is a failure.
     /// A failed call may change `into`.
@@ -30,6 +34,8 @@ pub trait Shelf {
         ensures within { IfOk result (λ count. count ≤ length into.old) }
         ensures bytes { IfOk result (λ count.
             OnFile (files self.old) name.now (λ file. Gives file at count into.new)) }
+        ensures taken { MatchResult result (λ count. takes self.old self.new at (length into.old) count)
+            (λ _. takes self.old self.new at (length into.old) 0) }
         ensures cause { HasCause (faults self.old) (faults self.new) result }
         ensures failed_name { MatchResult result
             (λ _. failed_name self.new ≡ failed_name self.old) (λ _. failed_name self.new ≡ name.now) }

@@ -44,6 +44,8 @@ impl<W: Write> Sink for StreamSink<W> {
 
     ghost faults = { λ s. s };
 
+    ghost puts = { λ _ _ _ _. Unit {0} };
+
     fn put(&mut self, bytes: &[u8]) -> Result<usize, Failed>
         requires { 0 < length bytes.now }
         ensures within { IfOk result (λ count. (1 ≤ count) × (count ≤ length bytes.now)) }

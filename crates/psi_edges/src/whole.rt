@@ -1,6 +1,7 @@
 // Whole files in and whole texts out, over any shelf and any sink.
 ghost use Rattle.std.specs.Prelude.{◌≡◌, ◌≢◌, ℕ, ◌+◌, ◌-◌, ◌^◌, ◌<◌, ◌≤◌, ◌++◌, List, length, take, IfOk, OnOk, OnErr, IsErrOf, vec_len};
 ghost use Rattle.psi_edges.specs.Limits.{longest_name};
+ghost use Rattle.psi_edges.specs.Calls.{AreAsked, AreOffered, IsAsked};
 ghost use Rattle.psi_edges.specs.Causes.{HasCause, Rose, raised};
 ghost use Rattle.psi_edges.specs.Files.{OnFile, IsNext};
 ghost use Rattle.psi_edges.specs.Held.{Appends, AppendsFront};
@@ -8,7 +9,7 @@ ghost use Rattle.psi_edges.specs.Held.{Appends, AppendsFront};
 use crate::failed::Failed;
 use crate::shelf::Shelf;
 use crate::sink::Sink;
-use std::alloc::Global;
+use std::alloc::{AllocError, Global};
 
 /// The greatest number of bytes that one call of a shelf is asked for.
 const PIECE: usize = 4096;
@@ -20,6 +21,16 @@ pub enum Fetch {
     Fault,
     TooLong,
     Memory,
+}
+
+impl From<AllocError> for Fetch {
+    ghost use Rattle.psi_edges.specs.declared.whole.Fetch.TheVariants.{Memory};
+
+    ghost from_gives = { λ _ error. error ≡ Memory };
+
+    fn from(_error: AllocError) -> Fetch {
+        Fetch::Memory
+    }
 }
 
 /// A call of the sink failed. The sink holds a part of what was to be written.
@@ -44,7 +55,9 @@ pub fn read_whole<F: Shelf>(
     // When the other errors come.
     ensures fault { IsErrOf result Fetch.Fault →
         Rose (F.faults shelf.old) (F.faults shelf.new) × (F.failed_name shelf.new ≡ name.now) }
-    // How many bytes were given.
+    // Which calls it makes, and how many bytes were given.
+    ensures asked { (count : ℕ) × AreAsked F.takes (limit + 1) shelf.old count shelf.new
+        × IfOk result (λ bytes. vec_len bytes ≡ count) }
     ensures given { IfOk result (λ bytes. F.given shelf.new ≡ raised (F.given shelf.old) (vec_len bytes)) }
     ensures counted { IsErrOf result Fetch.TooLong → F.given shelf.new ≡ raised (F.given shelf.old) (limit + 1) }
     ensures more_given { F.given shelf.old ≤ F.given shelf.new }
@@ -79,6 +92,8 @@ fn take_piece<F: Shelf>(
     requires small { most ≤ 2 ^ 32 }
     ensures next { IfOk result (λ count. OnFile (F.files shelf.old) name.now
         (λ file. IsNext file bytes.old.items count bytes.new.items)) }
+    ensures asked { (count : ℕ) × IsAsked F.takes most (vec_len bytes.old) shelf.old count shelf.new
+        × IfOk result (λ given. given ≡ count) }
     ensures within { OnOk result (vec_len bytes.new ≤ most) }
     ensures grown { IfOk result (λ count. vec_len bytes.new ≡ vec_len bytes.old + count) }
     ensures given { IfOk result (λ count. F.given shelf.new ≡ raised (F.given shelf.old) count) }
@@ -97,15 +112,17 @@ fn take_piece<F: Shelf>(
     let want = (most - at).min(PIECE as u64) as usize;
     match shelf.take(name, at, &mut piece[..want]) {
         Err(Failed) => Err(Fetch::Fault),
-        Ok(count) => match bytes.extend_from_slice(&piece[..count]) {
-            Err(_) => Err(Fetch::Memory),
-            Ok(()) => Ok(count),
-        },
+        Ok(count) => {
+            bytes.extend_from_slice(&piece[..count])?;
+            Ok(count)
+        }
     }
 }
 
 /// Appends all of `bytes` to the sink. It hands each `put` all that is left, and takes no memory.
 pub fn write_whole<K: Sink>(sink: &mut K, bytes: &[u8]) -> Result<(), WriteFault>
+    ensures offered { (done : ℕ) × AreOffered K.puts bytes.now sink.old done sink.new
+        × OnOk result (done ≡ length bytes.now) }
     ensures whole { OnOk result (Appends (K.held sink.old) (K.held sink.new) bytes.now) }
     ensures part { OnErr result (AppendsFront (K.held sink.old) (K.held sink.new) bytes.now) }
     ensures cause { HasCause (K.faults sink.old) (K.faults sink.new) result }

@@ -57,7 +57,7 @@ AcceptsEach statement =
 abbrev pub ShapesAfter : Type 0
 ShapesAfter = (inputs : Lists) (env : Env) (items : List Item) → shapes_of (env_after_all inputs env items) ≡ fold shapes_after (shapes_of env) items
 
-item-accepted : AcceptsEach Let → AcceptsEach Output → (before behind : List Item) (item : Item) (shapes : Shapes)
+pub item-accepted : AcceptsEach Let → AcceptsEach Output → (before behind : List Item) (item : Item) (shapes : Shapes)
     → verdict_of (before ++ item ∷ behind) ≡ Ok shapes
     → IsAcceptedItem (fold shapes_after [] before) item
 item-accepted lets outputs before behind (Input name extents) shapes h = tt

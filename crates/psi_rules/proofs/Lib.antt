@@ -1,8 +1,10 @@
 mod AreaLemmas
 mod BlockLemmas
+mod CountLemmas
 mod EntryLemmas
 mod FoldJobLemmas
 mod FormLemmas
+mod GoodTaskLemmas
 mod JobLemmas
 mod JobNodeLemmas
 mod KeepFormLemmas

@@ -21,7 +21,7 @@ use Rattle.psi_rules.proofs.ScopeLemmas.{scope-step, shapes-alike}
 -- ---- scopes
 
 -- scopes by numbers, from this one on, go on over these statements
-abbrev AreScopes : (ℕ → Scope) → ℕ → List Item → Type 0
+abbrev pub AreScopes : (ℕ → Scope) → ℕ → List Item → Type 0
 AreScopes at number [] = Unit {0}
 AreScopes at number (item ∷ items) = (at (suc number) ≡ scope_after (at number) item) × AreScopes at (suc number) items
 
@@ -38,7 +38,7 @@ scopes-go-on at number (item ∷ items) step =
       scopes-go-on at (suc number) items later,
     )
 
-are-scopes : (items : List Item) → AreScopes (scope_at items) 0 items
+pub are-scopes : (items : List Item) → AreScopes (scope_at items) 0 items
 are-scopes items = scopes-go-on (scope_at items) 0 items (λ k item e.
     let here : k ≡ 0 + k = omega arith in
     subst (λ n. scope_at items (suc n) ≡ scope_after (scope_at items n) item) here (scope-step items k item e))

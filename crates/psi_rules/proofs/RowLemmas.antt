@@ -141,7 +141,7 @@ owners-more number tasks owners others =
     ∙ sym (map-append (λ (o : Owned). o.statement) (map (λ task. record { statement = number; task = task }) tasks) others))
 
 -- the statements that are left begin with this one
-left-of : (items : List Item) (number : ℕ) (item : Item) → slice_get items number ≡ Some item → drop number items ≡ item ∷ drop (suc number) items
+pub left-of : (items : List Item) (number : ℕ) (item : Item) → slice_get items number ≡ Some item → drop number items ≡ item ∷ drop (suc number) items
 left-of items number item there =
     drop-cons items number item (slice_get_within items number item there)
     ∙ ap (λ first. first ∷ drop (suc number) items) (get_or_from_slice_get items number item item there)

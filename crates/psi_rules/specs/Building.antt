@@ -1,6 +1,6 @@
 -- What is built in a pool of terms. This project's own.
 use mathlib.Core.List.{reverse_aux}
-use Rattle.std.specs.Prelude.{◌≡◌, ℕ, suc, ◌+◌, ◌-◌, ◌<◌, ◌≤◌, ◌^◌, ℤ, pos, List, [], ◌∷◌, ◌++◌, drop, length, slice_index, take}
+use Rattle.std.specs.Prelude.{◌≡◌, ℕ, suc, ◌+◌, ◌-◌, ◌<◌, ◌≤◌, ℤ, pos, List, [], ◌∷◌, ◌++◌, drop, length, slice_index, take}
 use Rattle.shapes_core.specs.Limits.{most_items}
 use Rattle.moa_tree.specs.Axes.{on_axis, turned}
 use Rattle.moa_tree.specs.declared.operator.Op.{Op}

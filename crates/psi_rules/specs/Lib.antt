@@ -5,6 +5,7 @@ pub mod Building
 pub mod Jobs
 pub mod Keeping
 pub mod Loads
+pub mod Numbered
 pub mod Operands
 pub mod Places
 pub mod Reduced

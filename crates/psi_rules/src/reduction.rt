@@ -1,5 +1,5 @@
 // The form of a job.
-ghost use Rattle.std.specs.Prelude.{◌≡◌, ◌<◌, IfOk, Some, length, map, slice_get};
+ghost use Rattle.std.specs.Prelude.{◌≡◌, ℕ, ◌<◌, ◌≤◌, IfOk, Some, length, map, slice_get};
 ghost use Rattle.moa_tree.specs.Denotation.{Store as Lists};
 ghost use Rattle.shape_check.specs.Judged.{items_in};
 ghost use Rattle.shape_check.specs.Layout.{areas};
@@ -8,12 +8,13 @@ ghost use Rattle.normal_form.specs.Kept.{form_in};
 ghost use Rattle.psi_rules.specs.Agrees.{IsFormOf};
 ghost use Rattle.psi_rules.specs.Areas.{Given, given, store};
 ghost use Rattle.psi_rules.specs.Loads.{LoadsFrom};
+ghost use Rattle.psi_rules.specs.Numbered.{IsGoodTask, greatest_area, prices_at};
 ghost use Rattle.psi_rules.specs.Reduced.{IsReduced, JobFacts};
-ghost use Rattle.psi_rules.specs.Scopes.{first_scan};
+ghost use Rattle.psi_rules.specs.Scopes.{Owned, first_scan, names_at, owned};
 ghost use Rattle.psi_rules.specs.Tables.{AreTables, Tables as Known, scan_at};
 
 use crate::keeping_laws::{forms_keep, programs_are_built, scans_fold};
-use crate::laws::jobs_give;
+use crate::laws::{jobs_give, operands_move};
 use crate::loading_laws::forms_load;
 use crate::node_shapes::nodes_have_shapes;
 use crate::places::Place;
@@ -24,6 +25,7 @@ use crate::terms::terms_of;
 use moa_tree::Job;
 use normal_form::{Normal, Region};
 use shape_check::Checked;
+use shape_check::laws::verdicts_are_shapes;
 use shapes_core::NoMemory;
 use shapes_core::laws::span_laws;
 use std::alloc::Global;
@@ -40,16 +42,25 @@ fn job_at(checked: &Checked, number: u32) -> Job
     checked.jobs()[number as usize]
 }
 
-/// The area of the first scan in what a job of a statement gives.
-fn first_scan(tables: &Tables, statement: u32, job: Job) -> Result<u32, NoMemory>
-    ensures { IfOk result (λ scan. scan ≡ first_scan (scan_at tables.now statement) job.area job.fold) }
+/// The expression of the task of each job of a checked program is accepted, with few nodes and with
+/// numbers for the areas of its scans. Nothing runs.
+fn tasks_are_good(checked: &Checked)
+    ensures { (number : ℕ) (o : Owned) → slice_get (owned (items_in checked.now.pools)) number ≡ Some o
+        → IsGoodTask (names_at (items_in checked.now.pools) o.statement) (prices_at (items_in checked.now.pools) o.statement) o.task }
 {
-    if job.fold.is_none() {
-        return Ok(tables.scan_at(statement));
-    }
-    match job.area.checked_add(1) {
-        Some(scan) => Ok(scan),
-        None => Err(NoMemory),
+    let _statements = checked.program().statements();
+    operands_move();
+    verdicts_are_shapes();
+}
+
+/// The area of the first scan in what a job of a statement gives.
+fn first_scan(tables: &Tables, statement: u32, job: Job) -> u32
+    requires { first_scan (scan_at tables.now statement) job.area job.fold ≤ greatest_area }
+    ensures { result ≡ first_scan (scan_at tables.now statement) job.area job.fold }
+{
+    match job.fold {
+        None => tables.scan_at(statement),
+        Some(_) => job.area + 1,
     }
 }
 
@@ -79,10 +90,11 @@ pub fn reduce_among(
     programs_are_built();
     scans_fold();
     span_laws();
+    tasks_are_good(checked);
     let this = job_at(checked, job);
     let shape = checked.shape_of(this.node);
     let statement = tables.owner_at(job);
-    let scan = first_scan(tables, statement, this)?;
+    let scan = first_scan(tables, statement, this);
     let terms = terms_of(alloc, checked, tables, Place { statement, scan }, this.node)?;
     let _statements = checked.program().statements();
     let _extents = shape.extents();

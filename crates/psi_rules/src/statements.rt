@@ -1,14 +1,16 @@
 // One statement after another enters the tables.
-ghost use Rattle.std.specs.Prelude.{◌≡◌, ◌+◌, ◌<◌, suc, IfOk, IfSome, Some, length, slice_get};
+ghost use Rattle.std.specs.Prelude.{◌≡◌, ℕ, ◌+◌, ◌<◌, ◌≤◌, suc, IfOk, IfSome, Some, length, slice_get};
 ghost use Rattle.std.specs.List.{AllByRecursion};
 ghost use Rattle.moa_tree.specs.Denotation.{scans_of};
-ghost use Rattle.moa_tree.specs.Expr.{Let, Use};
+ghost use Rattle.moa_tree.specs.Expr.{Item as AnItem, Let, Use};
 ghost use Rattle.moa_tree.specs.Pools.{Pools, nodes_of};
 ghost use Rattle.shape_check.specs.Jobs.{output_count};
 ghost use Rattle.shape_check.specs.Judged.{items_in};
 ghost use Rattle.shape_check.specs.Layout.{name_of};
 ghost use Rattle.psi_rules.specs.Jobs.{Next, first, next_after};
+ghost use Rattle.psi_rules.specs.Numbered.{HaveNumbers, greatest_area};
 ghost use Rattle.psi_rules.specs.Rows.{AreDeclared, IsEnd, IsFilled, counted, item_in, own_area};
+ghost use Rattle.psi_rules.specs.Scopes.{next_at};
 ghost use Rattle.psi_rules.specs.Tables.{AreTables, Tables as Known};
 
 use crate::node_shapes::nodes_have_shapes;
@@ -50,9 +52,12 @@ fn first_areas(checked: &Checked) -> NextAreas
 }
 
 /// The areas that come behind those of a statement with so many scans.
-fn areas_behind(next: NextAreas, statement: &Statement, scans: u32) -> Result<NextAreas, NoMemory>
-    ensures { IfOk result (λ after. (pools : Pools) → scans ≡ length (scans_of (item_in pools statement.now))
-        → counted after ≡ next_after (counted next) (item_in pools statement.now)) }
+fn areas_behind(next: NextAreas, statement: &Statement, scans: u32) -> NextAreas
+    requires input { next.input ≤ greatest_area }
+    requires output { next.output ≤ greatest_area }
+    requires scan { next.scan + scans ≤ greatest_area }
+    ensures { (pools : Pools) → scans ≡ length (scans_of (item_in pools statement.now))
+        → counted result ≡ next_after (counted next) (item_in pools statement.now) }
 {
     let inputs = match statement {
         Statement::Input { .. } => 1,
@@ -62,11 +67,11 @@ fn areas_behind(next: NextAreas, statement: &Statement, scans: u32) -> Result<Ne
         Statement::Output { .. } => 1,
         Statement::Name { .. } | Statement::Input { .. } => 0,
     };
-    Ok(NextAreas {
-        input: next.input.checked_add(inputs).ok_or(NoMemory)?,
-        output: next.output.checked_add(outputs).ok_or(NoMemory)?,
-        scan: next.scan.checked_add(scans).ok_or(NoMemory)?,
-    })
+    NextAreas {
+        input: next.input + inputs,
+        output: next.output + outputs,
+        scan: next.scan + scans,
+    }
 }
 
 /// The area of a statement's array, where it is stored, and otherwise 0.
@@ -103,12 +108,13 @@ fn scans_in(checked: &Checked, statement: &Statement) -> Result<u32, NoMemory>
 }
 
 /// How many jobs a statement with so many scans has.
-fn jobs_in(statement: &Statement, scans: u32) -> Result<u32, NoMemory>
-    ensures { IfOk result (λ count. (pools : Pools) → count ≡ scans + output_count (item_in pools statement.now)) }
+fn jobs_in(statement: &Statement, scans: u32) -> u32
+    requires { scans ≤ greatest_area }
+    ensures { (pools : Pools) → result ≡ scans + output_count (item_in pools statement.now) }
 {
     match statement {
-        Statement::Input { .. } | Statement::Name { .. } => Ok(scans),
-        Statement::Output { .. } => scans.checked_add(1).ok_or(NoMemory),
+        Statement::Input { .. } | Statement::Name { .. } => scans,
+        Statement::Output { .. } => scans + 1,
     }
 }
 
@@ -153,6 +159,15 @@ fn statement_of(checked: &Checked, number: u32) -> Statement
     checked.program().statements()[number as usize]
 }
 
+/// The areas of each statement of a checked program have numbers. Nothing runs.
+fn areas_have_numbers(checked: &Checked)
+    ensures { (number : ℕ) (item : AnItem) → slice_get (items_in checked.now.pools) number ≡ Some item
+        → HaveNumbers (next_at (items_in checked.now.pools) number) item }
+{
+    let _statements = checked.program().statements();
+    verdicts_are_shapes();
+}
+
 /// Adds the statement of this number to the tables, and answers the areas that come behind it.
 fn enter(
     checked: &Checked,
@@ -164,13 +179,14 @@ fn enter(
     requires filled { IsFilled (items_in checked.now.pools) number tables.old (counted next) }
     ensures { IfOk result (λ after. IsFilled (items_in checked.now.pools) (suc number) tables.new (counted after)) }
 {
+    areas_have_numbers(checked);
     let statement = statement_of(checked, number);
     let scans = scans_in(checked, &statement)?;
     let end = end_of(checked, tables, number, &statement);
     tables.push(next.scan, own_area(next, &statement), end)?;
     tables.declare(name_of(&statement), number)?;
-    tables.own(number, jobs_in(&statement, scans)?)?;
-    areas_behind(next, &statement, scans)
+    tables.own(number, jobs_in(&statement, scans))?;
+    Ok(areas_behind(next, &statement, scans))
 }
 
 /// What the tables tell of a checked program, once all its statements are entered. Nothing runs.

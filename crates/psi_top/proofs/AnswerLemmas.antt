@@ -10,10 +10,10 @@ use Rattle.psi_edges.specs.Held.{Appends}
 use Rattle.shape_check.specs.Rules.{Failure}
 use Rattle.psi_top.specs.Answer.{IsAnswer, IsPublished, IsSaid, failed_run, outcome_of}
 use Rattle.psi_top.specs.Command.{Asks, IsMisuse}
-use Rattle.psi_top.specs.Line.{cannot_write_line}
+use Rattle.psi_top.specs.Line.{cannot_read_line, cannot_write_line}
 use Rattle.psi_top.specs.Made.{IsDone, IsMade, IsRunOf}
 use Rattle.psi_top.specs.Made.IsDone.{of_run, of_source}
-use Rattle.psi_top.specs.Outcome.{AreFiles, IsDue, IsOutcome, IsSourceOutcome, IsTextOf, Outcome, line_of, status_of}
+use Rattle.psi_top.specs.Outcome.{AreFiles, IsDue, IsOutcome, IsSourceOutcome, IsUnreadable, IsTextOf, Outcome, line_of, status_of}
 use Rattle.psi_top.specs.Outcome.IsDue.{over_files, cannot_read, no_memory}
 use Rattle.psi_top.specs.Outcome.IsOutcome.{usage, missing, found, runs}
 use Rattle.psi_top.specs.Outcome.IsSourceOutcome.{too_long, refused, not_built, fails, made}
@@ -123,12 +123,12 @@ outcome_status words files later outcome read (found a at r) = source_status _ _
 outcome_status words files later outcome read (runs {assembly = assembly} {arrays = arrays} a) = run_status files later assembly arrays
 
 due_status : (words : List (List ℕ)) (old new : ShelfView) (outcome : Outcome) → IsDue words old new outcome → Contains statuses (status_of outcome)
-due_status words old new outcome (over_files told again o given faults) = outcome_status words _ _ outcome _ o
-due_status words old new outcome (cannot_read before behind a all rose named) = (2, omega arith, refl)
+due_status words old new outcome (over_files told again o given faults other) = outcome_status words _ _ outcome _ o
+due_status words old new outcome (cannot_read unread) = (2, omega arith, refl)
 due_status words old new outcome (no_memory a) = (10, omega arith, refl)
 
 -- words that are no command ask for nothing
-nothing_asked : (words names : List (List ℕ)) → IsMisuse words → Asks words names → ⊥
+pub nothing_asked : (words names : List (List ℕ)) → IsMisuse words → Asks words names → ⊥
 nothing_asked words names m (Asks.source a) = m.no_source _ _ a
 nothing_asked words names m (Asks.run a) = m.no_run _ _ a
 
@@ -140,8 +140,8 @@ misuse_outcome words files later outcome read m (found a at r) = absurd (m.no_so
 misuse_outcome words files later outcome read m (runs a) = absurd (m.no_run _ _ a)
 
 misuse_due : (words : List (List ℕ)) (old new : ShelfView) (outcome : Outcome) → IsMisuse words → IsDue words old new outcome → (status_of outcome ≡ 1) × (line_of outcome ≢ [])
-misuse_due words old new outcome m (over_files told again o given faults) = misuse_outcome words _ _ outcome _ m o
-misuse_due words old new outcome m (cannot_read before behind a all rose named) = absurd (nothing_asked words _ m a)
+misuse_due words old new outcome m (over_files told again o given faults other) = misuse_outcome words _ _ outcome _ m o
+misuse_due words old new outcome m (cannot_read unread) = absurd (nothing_asked words _ m unread.asked)
 misuse_due words old new outcome m (no_memory a) = absurd (nothing_asked words _ m a)
 
 -- a text of status 0 is what the task makes of the source
@@ -178,8 +178,8 @@ module _ (spelled : (text : List ℕ) → refusal text ≡ None → Spells text 
       (of_run a (told_files told files later assembly arrays (λ program file. IsRunOf program file text) is.assembly_text is.array_file are again is.there is.behind made), (printed_run files later assembly arrays text e t).1)
 
   text_due : (words : List (List ℕ)) (old new : ShelfView) (outcome : Outcome) (text : List ℕ) → IsDue words old new outcome → status_of outcome ≡ 0 → IsTextOf outcome text → IsDone words old.files text × (line_of outcome ≡ [])
-  text_due words old new outcome text (over_files told again o given faults) e t = text_outcome words old.files _ _ outcome _ text told again o e t
-  text_due words old new outcome text (cannot_read before behind a all rose named) e t = absurd (omega arith)
+  text_due words old new outcome text (over_files told again o given faults other) e t = text_outcome words old.files _ _ outcome _ text told again o e t
+  text_due words old new outcome text (cannot_read unread) e t = absurd (omega arith)
   text_due words old new outcome text (no_memory a) e t = absurd (omega arith)
 
 -- the text of an outcome of another status is none
@@ -196,8 +196,8 @@ asked_outcome words files later outcome read (found a at r) n = (_, Asks.source 
 asked_outcome words files later outcome read (runs a) n = (_, Asks.run a)
 
 asked_due : (words : List (List ℕ)) (old new : ShelfView) (outcome : Outcome) → IsDue words old new outcome → status_of outcome ≢ 1 → (names : List (List ℕ)) × Asks words names
-asked_due words old new outcome (over_files told again o given faults) n = asked_outcome words _ _ outcome _ o n
-asked_due words old new outcome (cannot_read before behind a all rose named) n = (_, a)
+asked_due words old new outcome (over_files told again o given faults other) n = asked_outcome words _ _ outcome _ o n
+asked_due words old new outcome (cannot_read unread) n = (_, unread.asked)
 asked_due words old new outcome (no_memory a) n = (_, a)
 
 -- what is said in place of what is due is due
@@ -258,15 +258,15 @@ module _ (words : List (List ℕ)) (old new : ShelfView) (out_old out_new err_ol
 
   -- the status that is due is that of the outcome over the files
   due_complete : (one_outcome : (words : List (List ℕ)) (files later : Files) (one other : Outcome) (read other_read : ℕ) → IsOutcome words files later one read → IsOutcome words files later other other_read → (one ≡ other) × (read ≡ other_read)) (due outcome : Outcome) (read : ℕ) → IsDue words old new due → IsSomeAnd old.files (λ files. IsOutcome words files files outcome read) → ¬ Rose old.faults new.faults ⊎ (status_of outcome ≡ 2) → (status_of due ≡ status_of outcome) ⊎ (status_of due ≡ 10)
-  due_complete one_outcome due outcome read (over_files told again o given faults) over calm = inl (same_outcome old.files _ _ told again o over)
+  due_complete one_outcome due outcome read (over_files told again o given faults other) over calm = inl (same_outcome old.files _ _ told again o over)
     where
       same_outcome : (told : Option Files) (files later : Files) {n : ℕ} → AreFiles told files → AreFiles told later → IsOutcome words files later due n → IsSomeAnd told (λ files. IsOutcome words files files outcome read) → status_of due ≡ status_of outcome
       same_outcome None files later are again o over = elim over [ ]
       same_outcome (Some told) files later are again o over =
           let first : IsOutcome words files told outcome read = subst (λ f. IsOutcome words f told outcome read) are over in
           ap status_of (one_outcome words files later due outcome _ read o (subst (λ f. IsOutcome words files f outcome read) again first)).0
-  due_complete one_outcome due outcome read (cannot_read before behind a all rose named) over (inl calm) = absurd (calm rose)
-  due_complete one_outcome due outcome read (cannot_read before behind a all rose named) over (inr two) = inl (sym two)
+  due_complete one_outcome due outcome read (cannot_read unread) over (inl calm) = absurd (calm unread.rose)
+  due_complete one_outcome due outcome read (cannot_read unread) over (inr two) = inl (sym two)
   due_complete one_outcome due outcome read (no_memory a) over calm = inr refl
 
   pub status_complete : (one_outcome : (words : List (List ℕ)) (files later : Files) (one other : Outcome) (read other_read : ℕ) → IsOutcome words files later one read → IsOutcome words files later other other_read → (one ≡ other) × (read ≡ other_read)) (due outcome : Outcome) (read status : ℕ) → IsDue words old new due → IsPut due out_old out_new err_old err_new status → IsSomeAnd old.files (λ files. IsOutcome words files files outcome read) → ¬ Rose old.faults new.faults ⊎ (status_of outcome ≡ 2) → ¬ Rose out_old.faults out_new.faults → ¬ Rose err_old.faults err_new.faults → (status ≡ status_of outcome) ⊎ (status ≡ 10)
@@ -276,12 +276,23 @@ module _ (words : List (List ℕ)) (old new : ShelfView) (out_old out_new err_ol
     | inr (e, inr rose) ↦ absurd (err rose)
   ]
 
+  -- where a file cannot be read, a read of it failed, and the line that says so was put
+  pub two_unreadable : (outcome : Outcome) (status : ℕ) → IsDue words old new outcome → IsPut outcome out_old out_new err_old err_new status → status ≡ 2 → (name : List ℕ) × IsUnreadable words old new name × Appends err_old.held err_new.held (cannot_read_line name)
+  two_unreadable outcome status due put two =
+      let all = put_whole outcome status put (λ three. omega (arith, two, three)) in
+      due_two outcome due (sym all.4 ∙ two) all.3.held
+    where
+      due_two : (outcome : Outcome) → IsDue words old new outcome → status_of outcome ≡ 2 → Appends err_old.held err_new.held (line_of outcome) → (name : List ℕ) × IsUnreadable words old new name × Appends err_old.held err_new.held (cannot_read_line name)
+      due_two outcome (over_files told again o given faults other) two line = absurd (other two)
+      due_two outcome (cannot_read {name = name} unread) two line = (name, unread, line)
+      due_two outcome (no_memory a) two line = absurd (omega arith)
+
   pub reads_same : (outcome : Outcome) (status : ℕ) → IsDue words old new outcome → IsPut outcome out_old out_new err_old err_new status → status ≢ 2 → status ≢ 3 → status ≢ 10 → new.faults ≡ old.faults
   reads_same outcome status due put two three ten =
       let e = (put_whole outcome status put three).4 in
       due_calm outcome due (λ is. two (e ∙ is)) (λ is. ten (e ∙ is))
     where
       due_calm : (outcome : Outcome) → IsDue words old new outcome → status_of outcome ≢ 2 → status_of outcome ≢ 10 → new.faults ≡ old.faults
-      due_calm outcome (over_files told again o given faults) two ten = faults
-      due_calm outcome (cannot_read before behind a all rose named) two ten = absurd (two refl)
+      due_calm outcome (over_files told again o given faults other) two ten = faults
+      due_calm outcome (cannot_read unread) two ten = absurd (two refl)
       due_calm outcome (no_memory a) two ten = absurd (ten refl)

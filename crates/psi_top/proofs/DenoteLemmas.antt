@@ -114,12 +114,12 @@ module _ (tree : Tree) (text : List ℕ) (faithful : IsFaithful tree text) where
       (subst (λ name. IsFair tree later arrays (run_outcome files later assembly name).0) same.1 (run_fair files later assembly arrays at))
 
   due_fair : (words : List (List ℕ)) (files : Files) (old new : ShelfView) (assembly arrays : List ℕ) (outcome : Outcome) → IsRun words assembly arrays → old.files ≡ Some files → get files assembly ≡ Some text → IsDue words old new outcome → IsFair tree files arrays outcome
-  due_fair words files old new assembly arrays outcome asked tells at (over_files {files = first} {later = later} told again o given faults) =
+  due_fair words files old new assembly arrays outcome asked tells at (over_files {files = first} {later = later} told again o given faults there) =
       let one : files ≡ first = subst (λ t. AreFiles t first) tells told in
       let other : files ≡ later = subst (λ t. AreFiles t later) tells again in
       subst (λ f. IsFair tree f arrays outcome) (sym other)
       (outcome_fair words first later assembly arrays outcome _ asked (subst (λ f. get f assembly ≡ Some text) one at) o)
-  due_fair words files old new assembly arrays outcome asked tells at (cannot_read before behind a all rose named) = fair tree files arrays (Refuses 2 _) (λ e. omega (arith, e)) (λ e. omega (arith, e)) (λ e. omega (arith, e))
+  due_fair words files old new assembly arrays outcome asked tells at (cannot_read unread) = fair tree files arrays (Refuses 2 _) (λ e. omega (arith, e)) (λ e. omega (arith, e)) (λ e. omega (arith, e))
   due_fair words files old new assembly arrays outcome asked tells at (no_memory a) = fair tree files arrays (Refuses 10 _) (λ e. omega (arith, e)) (λ e. omega (arith, e)) (λ e. omega (arith, e))
 
 -- a shelf that tells a file tells its files

@@ -26,7 +26,7 @@ use Rattle.psi_top.specs.Views.{ShelfView}
 use Rattle.psi_top.specs.declared.command.Task.{Task}
 use Rattle.psi_top.specs.declared.refusal.Refusal.{Refusal}
 use Rattle.psi_top.specs.declared.refusal.Refusal.TheVariants.{Usage, CannotRead, TooLong, Text, Rule, Limit, NotBuilt, Run, Memory}
-use Rattle.psi_top.proofs.RunLemmas.{over_long, over_short, over_spelled}
+use Rattle.psi_top.proofs.RunLemmas.{over_long, over_short, over_spelled, ran_not_two, refused_not_two, source_not_two}
 
 -- a refusal is want of memory, or it is not
 is_memory : (refusal : Refusal) → (refusal ≡ Memory) ⊎ (refusal ≢ Memory)
@@ -72,24 +72,24 @@ some_files (Some files) = (files, refl)
 
 -- the usage is due of words that are no command
 pub due_usage : (words : List (List ℕ)) (shelf : ShelfView) → IsMisuse words → IsDue words shelf shelf (Refuses 1 usage_line)
-due_usage words shelf misuse = let some = some_files shelf.files in IsDue.over_files some.1 some.1 (IsOutcome.usage misuse) (inr (refl, refl)) refl
+due_usage words shelf misuse = let some = some_files shelf.files in IsDue.over_files some.1 some.1 (IsOutcome.usage misuse) (inr (refl, refl)) refl (λ e. omega (arith, e))
 
 -- Of a source.
 module _ (words : List (List ℕ)) (old new : ShelfView) (task : Task) (name : List ℕ) (command : IsCommand words task name) where
   -- the file was not read
   pub due_unread_source : (outcome : Outcome) → IsUnread old new name 1 longest_source outcome → IsDue words old new outcome
-  due_unread_source outcome (failed rose named) = IsDue.cannot_read ([]) ([]) (Asks.source command) (All-nil _) rose named
+  due_unread_source outcome (failed rose named) = IsDue.cannot_read (record { before = []; behind = []; asked = Asks.source command; runnable = All-nil _; rose = rose; named = named })
   due_unread_source outcome (longer on given faults) =
       let long = long_file longest_source in
       let file = file_at old.files name long.0 (λ file. longest_source < length file) long.1 on in
-      IsDue.over_files file.1 file.1 (found command file.3 (too_long file.4)) (inl given) faults
+      IsDue.over_files file.1 file.1 (found command file.3 (too_long file.4)) (inl given) faults (λ e. omega (arith, e))
   due_unread_source outcome starved = IsDue.no_memory (Asks.source command)
 
   -- the file was read, and came to this outcome
   pub due_source : (bytes : List ℕ) → IsRead old new name longest_source bytes → (outcome : Outcome) → IsSourceOutcome task name bytes outcome (length bytes) → IsDue words old new outcome
   due_source bytes read outcome is =
       let file = file_at old.files name bytes (λ file. bytes ≡ file) refl read.whole in
-      IsDue.over_files file.1 file.1 (found command file.3 (subst (λ source. IsSourceOutcome task name source outcome (length bytes)) file.4 is)) (inl read.given) read.faults
+      IsDue.over_files file.1 file.1 (found command file.3 (subst (λ source. IsSourceOutcome task name source outcome (length bytes)) file.4 is)) (inl read.given) read.faults (source_not_two task name bytes outcome (length bytes) is)
 
 -- what a run comes to
 reached : (words : List (List ℕ)) (files later : Files) (assembly arrays : List ℕ) (outcome : Outcome) (read : ℕ) → IsRun words assembly arrays → run_outcome files later assembly arrays ≡ (outcome, read) → IsOutcome words files later outcome read
@@ -103,12 +103,12 @@ given_both before between now first second e f = omega (arith, e, f)
 module _ (words : List (List ℕ)) (assembly arrays : List ℕ) (asked : IsRun words assembly arrays) where
   -- the assembly text was not read
   pub due_unread_assembly : (old new : ShelfView) (outcome : Outcome) → IsUnread old new assembly 8 longest_assembly outcome → IsDue words old new outcome
-  due_unread_assembly old new outcome (failed rose named) = IsDue.cannot_read ([]) (arrays ∷ []) (Asks.run asked) (All-nil _) rose named
+  due_unread_assembly old new outcome (failed rose named) = IsDue.cannot_read (record { before = []; behind = arrays ∷ []; asked = Asks.run asked; runnable = All-nil _; rose = rose; named = named })
   due_unread_assembly old new outcome (longer on given faults) =
       let long = long_file longest_assembly in
       let file = file_at old.files assembly long.0 (λ file. longest_assembly < length file) long.1 on in
       let reaches = over_long file.0 assembly 8 longest_assembly (over_text assembly (over_arrays file.0 assembly arrays)) file.2 file.3 file.4 in
-      IsDue.over_files file.1 file.1 (reached words file.0 file.0 assembly arrays _ _ asked reaches) (inl given) faults
+      IsDue.over_files file.1 file.1 (reached words file.0 file.0 assembly arrays _ _ asked reaches) (inl given) faults (λ e. omega (arith, e))
   due_unread_assembly old new outcome starved = IsDue.no_memory (Asks.run asked)
 
   -- it was read, and is refused
@@ -118,7 +118,7 @@ module _ (words : List (List ℕ)) (assembly arrays : List ℕ) (asked : IsRun w
       let there = file.3 ∙ ap Some (sym file.4) in
       let rest = over_arrays file.0 assembly arrays in
       let reaches = over_short file.0 assembly 8 longest_assembly (over_text assembly rest) text there read.short ∙ ap (after_reading (length text)) (refused rest) in
-      IsDue.over_files file.1 file.1 (reached words file.0 file.0 assembly arrays outcome (length text + 0) asked reaches) (inl (given_both _ _ _ (length text) 0 read.given (omega arith))) read.faults
+      IsDue.over_files file.1 file.1 (reached words file.0 file.0 assembly arrays outcome (length text + 0) asked reaches) (inl (given_both _ _ _ (length text) 0 read.given (omega arith))) read.faults (refused_not_two assembly text outcome refused)
 
   pub due_refusal : (old new : ShelfView) (text : List ℕ) (refusal : Refusal) → IsRead old new assembly longest_assembly text → (refusal ≢ Memory → (rest : Parts → Reached) → over_text assembly rest text ≡ (outcome_of refusal, 0)) → IsDue words old new (outcome_of refusal)
   due_refusal old new text refusal read refused = elim (is_memory refusal) [
@@ -132,7 +132,14 @@ module _ (words : List (List ℕ)) (assembly arrays : List ℕ) (asked : IsRun w
     pub due_unread_arrays : (outcome : Outcome) → IsUnread between new arrays 9 longest_arrays outcome → IsDue words old new outcome
     due_unread_arrays outcome (failed rose named) =
         let can : OnFile old.files assembly IsRunnable = on_same old.files assembly text IsRunnable read.whole runnable in
-        IsDue.cannot_read (assembly ∷ []) ([]) (Asks.run asked) (All-cons (λ file. OnFile old.files file IsRunnable) assembly [] can (All-nil _)) (subst (λ before. Rose before new.faults) read.faults rose) named
+        IsDue.cannot_read (record {
+          before = assembly ∷ [];
+          behind = [];
+          asked = Asks.run asked;
+          runnable = All-cons (λ file. OnFile old.files file IsRunnable) assembly [] can (All-nil _);
+          rose = subst (λ before. Rose before new.faults) read.faults rose;
+          named = named;
+        })
     due_unread_arrays outcome (longer on given faults) =
         let file = file_at old.files assembly text (λ file. text ≡ file) refl read.whole in
         let there = file.3 ∙ ap Some (sym file.4) in
@@ -141,7 +148,7 @@ module _ (words : List (List ℕ)) (assembly arrays : List ℕ) (asked : IsRun w
         let rest = over_arrays second.0 assembly arrays in
         let reaches = over_short file.0 assembly 8 longest_assembly (over_text assembly rest) text there read.short
         ∙ ap (after_reading (length text)) (over_spelled assembly rest text runnable ∙ over_long second.0 arrays 9 longest_arrays (λ bytes. (ran_outcome assembly arrays (ran (parts_of text) bytes), 0)) second.2 second.3 second.4) in
-        IsDue.over_files file.1 second.1 (reached words file.0 second.0 assembly arrays _ _ asked reaches) (inl (given_both _ _ _ (length text) (longest_arrays + 1) read.given given)) (faults ∙ read.faults)
+        IsDue.over_files file.1 second.1 (reached words file.0 second.0 assembly arrays _ _ asked reaches) (inl (given_both _ _ _ (length text) (longest_arrays + 1) read.given given)) (faults ∙ read.faults) (λ e. omega (arith, e))
     due_unread_arrays outcome starved = IsDue.no_memory (Asks.run asked)
 
     -- the arrays were read, and this became of the run
@@ -156,7 +163,7 @@ module _ (words : List (List ℕ)) (assembly arrays : List ℕ) (asked : IsRun w
         ∙ ap (after_reading (length text)) (over_spelled assembly rest text runnable ∙ over_short second.0 arrays 9 longest_arrays (λ bytes. (ran_outcome assembly arrays (ran (parts_of text) bytes), 0)) bytes behind again.short)
         ∙ ap (λ (r : Ran). (ran_outcome assembly arrays r, length text + (length bytes + 0))) is in
         let given : new.given ≡ raised between.given (length bytes + 0) = omega (arith, again.given) in
-        IsDue.over_files file.1 second.1 (reached words file.0 second.0 assembly arrays _ _ asked reaches) (inl (given_both _ _ _ (length text) (length bytes + 0) read.given given)) (again.faults ∙ read.faults)
+        IsDue.over_files file.1 second.1 (reached words file.0 second.0 assembly arrays _ _ asked reaches) (inl (given_both _ _ _ (length text) (length bytes + 0) read.given given)) (again.faults ∙ read.faults) (ran_not_two assembly arrays came)
 
     -- it is said of a refusal, where a program is that of the text, or it is the text that is due
     pub due_run_refusal : (program : Parts) (bytes : List ℕ) (refusal : Refusal) → program ≡ parts_of text → IsRead between new arrays longest_arrays bytes → (refusal ≢ Memory → ran_outcome assembly arrays (ran program bytes) ≡ outcome_of refusal) → IsDue words old new (outcome_of refusal)

@@ -1,6 +1,7 @@
 pub mod AnswerLemmas
 pub mod DenoteLemmas
 pub mod DueLemmas
+pub mod ExampleLemmas
 pub mod MessageLemmas
 pub mod OutcomeLemmas
 pub mod ReportLemmas

@@ -1,8 +1,8 @@
 -- What a run comes to over files.
-use Rattle.std.proofs.Common.{◌≡◌, ℕ, ◌+◌, ◌<◌, ◌≤◌, List, [], ◌∷◌, length, Option, Some, None, Bool, true, false, refl, sym, ap, ◌∙◌, arith}
+use Rattle.std.proofs.Common.{◌≡◌, ℕ, ◌+◌, ◌<◌, ◌≤◌, List, [], ◌∷◌, length, Option, Some, None, Bool, true, false, refl, sym, ap, subst, ◌∙◌, arith}
 use Rattle.std.proofs.lemmas.Bool.{le-leb, leb-true, lt-leb}
 use Rattle.std.specs.FinMap.{get}
-use Rattle.std.specs.Prelude.{Contains, nat_le, if◌then◌else◌}
+use Rattle.std.specs.Prelude.{◌≢◌, Contains, nat_le, if◌then◌else◌}
 use Rattle.array_text.specs.Limits.{longest_arrays}
 use Rattle.rv_reader.specs.Limits.{longest_assembly}
 use Rattle.psi_edges.specs.Files.{Files}
@@ -10,8 +10,10 @@ use Rattle.rv_line.specs.Parts.{Parts}
 use Rattle.rv_reader.specs.Refusals.{Refusal, parts_of, refusal}
 use Rattle.array_run.specs.Ran.{Ran, ran}
 use Rattle.psi_top.specs.Line.{assembly_line, block_line, cannot_read_line, greatest_block, longer_line}
-use Rattle.psi_top.specs.Outcome.{IsRunnable, IsTextOf, Outcome, Reached, after_reading, line_of, over_arrays, over_bytes, over_file, over_program, over_text, ran_outcome, run_outcome, status_of, unless_refused, words_of_block}
+use Rattle.psi_top.specs.Outcome.{IsRunnable, IsSourceOutcome, IsTextOf, Outcome, Reached, after_reading, line_of, over_arrays, over_bytes, over_file, over_program, over_text, ran_outcome, run_outcome, status_of, unless_refused, words_of_block}
 use Rattle.psi_top.specs.Outcome.Outcome.{Refuses}
+use Rattle.psi_top.specs.declared.command.Task.{Task}
+use Rattle.shape_check.specs.Rules.{Failure}
 
 -- over a file that is as long as it may be, over a longer one, and over a text that can be run
 pub over_short : (files : Files) (name : List ℕ) (which most : ℕ) (rest : List ℕ → Reached) (bytes : List ℕ) → get files name ≡ Some bytes → length bytes ≤ most → over_file files name which most rest ≡ after_reading (length bytes) (rest bytes)
@@ -66,6 +68,31 @@ module _ (P : Outcome → Type 0) where
       over_text_cases assembly (over_arrays later assembly arrays) text (λ at is. eight text at there is) (block (words_of_block (parts_of text))) (λ spelled room.
       over_bytes_cases arrays 9 longest_arrays (λ bytes. (ran_outcome assembly arrays (ran (parts_of text) bytes), 0)) (get later arrays) (two arrays) (long arrays 9 longest_arrays) (λ bytes behind small.
       go text bytes there behind (record { short = short; spelled = spelled; room = room }))))
+
+-- only a file that is not there has status 2: a source that was read has not
+pub source_not_two : (task : Task) (name source : List ℕ) (outcome : Outcome) (read : ℕ) → IsSourceOutcome task name source outcome read → status_of outcome ≢ 2
+source_not_two task name source outcome read (IsSourceOutcome.too_long a) = λ e. omega (arith, e)
+source_not_two task name source outcome read (IsSourceOutcome.refused a r) = λ e. omega (arith, e)
+source_not_two task name source outcome read (IsSourceOutcome.not_built a t r) = λ e. omega (arith, e)
+source_not_two task name source outcome read (IsSourceOutcome.fails {failure = Failure.Rule place rule} a other r v) = λ e. omega (arith, e)
+source_not_two task name source outcome read (IsSourceOutcome.fails {failure = Failure.Limit place which value} a other r v) = λ e. omega (arith, e)
+source_not_two task name source outcome read (IsSourceOutcome.made a r can) = λ e. omega (arith, e)
+
+-- nor has an assembly text that was read, whatever the rest would come to
+pub refused_not_two : (name text : List ℕ) (outcome : Outcome) → ((rest : Parts → Reached) → over_text name rest text ≡ (outcome, 0)) → status_of outcome ≢ 2
+refused_not_two name text outcome refused =
+    let done : Parts → Reached = λ program. (Outcome.Prints [], 0) in
+    subst (λ (reached : Reached). status_of reached.0 ≢ 2) (refused done)
+    (over_text_cases (λ found. status_of found ≢ 2) name done text (λ at is e. omega (arith, e)) (λ e. omega (arith, e)) (λ is room e. omega (arith, e)))
+
+-- nor has a run
+pub ran_not_two : (assembly arrays : List ℕ) (found : Ran) → status_of (ran_outcome assembly arrays found) ≢ 2
+ran_not_two assembly arrays (Ran.Prints text) = λ e. omega (arith, e)
+ran_not_two assembly arrays (Ran.Refused line cause) = λ e. omega (arith, e)
+ran_not_two assembly arrays (Ran.Access line address) = λ e. omega (arith, e)
+ran_not_two assembly arrays (Ran.OffText address) = λ e. omega (arith, e)
+ran_not_two assembly arrays (Ran.Trap line) = λ e. omega (arith, e)
+ran_not_two assembly arrays (Ran.Spent steps) = λ e. omega (arith, e)
 
 -- the statuses of calls
 abbrev pub statuses : List ℕ

@@ -1,4 +1,5 @@
 pub mod Answer
+pub mod CallExamples
 pub mod Command
 pub mod Line
 pub mod Made

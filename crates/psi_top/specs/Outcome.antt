@@ -1,5 +1,5 @@
 -- What a call comes to. This project's own.
-use Rattle.std.specs.Prelude.{ℕ, ◌+◌, ◌≡◌, ◌<◌, ◌≤◌, ◌⊎◌, nat_le, if◌then◌else◌, true, List, [], ◌∷◌, ◌++◌, All, length, Option, Some, None, Err}
+use Rattle.std.specs.Prelude.{ℕ, ◌+◌, ◌≡◌, ◌≢◌, ◌<◌, ◌≤◌, ◌⊎◌, nat_le, if◌then◌else◌, true, List, [], ◌∷◌, ◌++◌, All, length, Option, Some, None, Err}
 use Rattle.std.specs.Option.{option_map}
 use Rattle.std.specs.FinMap.{get}
 use Rattle.array_text.specs.Limits.{longest_arrays}
@@ -145,9 +145,19 @@ pub record IsRunnable (text : List ℕ) : Type 0 where
   pub spelled : refusal text ≡ None
   pub room : words_of_block (parts_of text) ≤ greatest_block
 
--- what is due in a call that finds a shelf as `old` and leaves it as `new`: what the words come to over its files, where no read failed; that
--- a file cannot be read, where a read of it failed, and what was read before it could be run; or want of memory
+-- a file that the words ask for cannot be read: the count of failed reads rose, the last of them was of this file, and what the words ask for
+-- before it was read and can be run
+pub record IsUnreadable (words : List (List ℕ)) (old new : ShelfView) (name : List ℕ) : Type 0 where
+  pub before : List (List ℕ)
+  pub behind : List (List ℕ)
+  pub asked : Asks words (before ++ name ∷ behind)
+  pub runnable : All (λ file. OnFile old.files file IsRunnable) before
+  pub rose : Rose old.faults new.faults
+  pub named : new.failed_name ≡ name
+
+-- what is due in a call that finds a shelf as `old` and leaves it as `new`: what the words come to over its files, where no read failed, so
+-- that each file was there; that a file cannot be read; or want of memory
 pub data IsDue (words : List (List ℕ)) (old new : ShelfView) : Outcome → Type 0 where
-  over_files : {files later : Files} {read : ℕ} {outcome : Outcome} → AreFiles old.files files → AreFiles old.files later → IsOutcome words files later outcome read → IsGiven old.given new.given read → new.faults ≡ old.faults → IsDue words old new outcome
-  cannot_read : (before behind : List (List ℕ)) {name : List ℕ} → Asks words (before ++ name ∷ behind) → All (λ file. OnFile old.files file IsRunnable) before → Rose old.faults new.faults → new.failed_name ≡ name → IsDue words old new (Refuses 2 (cannot_read_line name))
+  over_files : {files later : Files} {read : ℕ} {outcome : Outcome} → AreFiles old.files files → AreFiles old.files later → IsOutcome words files later outcome read → IsGiven old.given new.given read → new.faults ≡ old.faults → status_of outcome ≢ 2 → IsDue words old new outcome
+  cannot_read : {name : List ℕ} → IsUnreadable words old new name → IsDue words old new (Refuses 2 (cannot_read_line name))
   no_memory : {names : List (List ℕ)} → Asks words names → IsDue words old new (Refuses 10 no_memory_line)

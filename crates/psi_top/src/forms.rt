@@ -62,13 +62,6 @@ fn push_form(
     Ok(())
 }
 
-/// How many jobs a checked program has.
-fn job_count(checked: &Checked) -> Result<u32, NoMemory>
-    ensures { IfOk result (λ count. count ≡ length checked.now.jobs) }
-{
-    u32::try_from(checked.jobs().len()).map_err(|_| NoMemory)
-}
-
 /// The forms of a checked program, a line a job, in order.
 pub(crate) fn forms_of(
     alloc: Global,
@@ -81,7 +74,7 @@ pub(crate) fn forms_of(
     let mut text = Vec::new(alloc);
     let _program = checked.program();
     let tables = tables_of(alloc, checked)?;
-    let count = job_count(checked)?;
+    let count = checked.job_count();
     for job in 0..count {
         push_form(alloc, kind, &mut text, checked, &tables, job)?;
     }

@@ -1,6 +1,7 @@
 // The commands of the program, over a shelf of files and two sinks.
 #![tactic(auto)]
 
+pub mod call_examples;
 mod command;
 mod execute;
 mod fetch;
@@ -15,10 +16,9 @@ mod run_failure;
 pub mod shown_examples;
 mod start;
 mod status;
-#[cfg(test)]
-mod tests;
+mod texts;
 
-pub use laws::one_outcome;
+pub use laws::{compiled_texts_run_to_their_end, one_outcome};
 pub use program::psi;
 pub use start::run;
 pub use status::Status;

@@ -3,22 +3,20 @@ ghost use Rattle.std.specs.Prelude.{◌≡◌, ◌≢◌, ℕ, ℤ, ◌+◌, ◌
 ghost use Rattle.moa_reader.specs.Limits.{longest_source};
 ghost use Rattle.psi_edges.specs.Limits.{longest_name};
 ghost use Rattle.moa_tree.specs.Expr.{Tree};
-ghost use Rattle.moa_tree.specs.Pools.{tree_of};
-ghost use Rattle.moa_tree.specs.Readings.{Reads};
 ghost use Rattle.shape_check.specs.Layout.{areas};
 ghost use Rattle.array_text.specs.Outcome.{Accepted, outcome_of};
 ghost use Rattle.array_run.specs.Ran.{printed_all};
 ghost use Rattle.array_run.specs.Starts.{inputs, outputs};
 ghost use Rattle.psi_compile.specs.Compiled.{IsCompiled};
 ghost use Rattle.psi_compile.specs.Demands.{denoted};
-ghost use Rattle.psi_compile.specs.Errors.{IsCause};
 ghost use Rattle.psi_edges.specs.Causes.{Rose};
 ghost use Rattle.psi_edges.specs.Files.{OnFile, TellsFile};
 ghost use Rattle.psi_edges.specs.Held.{Appends};
 ghost use Rattle.psi_top.specs.Answer.{IsAnswer, IsPublished};
 ghost use Rattle.psi_top.specs.Command.{IsCommand, IsMisuse, IsRun};
-ghost use Rattle.psi_top.specs.Made.{IsCauseFor, IsDone, IsMade, IsUnbuilt};
-ghost use Rattle.psi_top.specs.Outcome.{IsDue, IsOutcome, IsTextOf, Outcome, line_of, most_read, status_of};
+ghost use Rattle.psi_top.specs.Line.{cannot_read_line};
+ghost use Rattle.psi_top.specs.Made.{IsDone};
+ghost use Rattle.psi_top.specs.Outcome.{IsDue, IsOutcome, IsTextOf, IsUnreadable, Outcome, line_of, most_read, status_of};
 ghost use Rattle.psi_top.specs.Put.{IsPut};
 ghost use Rattle.psi_top.specs.Views.{shelf_view, sink_view};
 ghost use Rattle.psi_top.specs.declared.command.Task.{Task as AnyTask};
@@ -26,48 +24,16 @@ ghost use Rattle.psi_top.specs.declared.command.Task.{Task as AnyTask};
 use crate::command::{Command, Task, command_of};
 use crate::execute::run_of;
 use crate::fetch::fetch;
-use crate::forms::{FormKind, forms_of};
 use crate::laws::{one_outcome, texts_run};
-use crate::nests::nests_text;
 use crate::refusal::{Refusal, put_line, refuse};
-use crate::report::report_on;
 use crate::status::Status;
-use moa_reader::{LONGEST_SOURCE, print, read};
-use psi_compile::laws::causes_are_kept;
-use psi_compile::{CompileError, built_program, compile};
+use crate::texts::text_for;
+use moa_reader::LONGEST_SOURCE;
+use psi_compile::CompileError;
 use psi_edges::{Shelf, Sink, WriteFault, write_whole};
-use shape_check::{Checked, check};
 use std::alloc::Global;
 
 const CANNOT_WRITE: &str = "psic: cannot write\n";
-
-/// The program that a source reads as, checked.
-fn checked(alloc: Global, source: &[u8]) -> Result<Checked, CompileError>
-    requires { length source.now ≤ longest_source }
-    ensures read { IfOk result (λ checked. Reads source.now (tree_of checked.pools)) }
-    ensures causes { IfErr result (λ error. IsCause source.now error) }
-    ensures unbuilt { IfErr result (λ error. IsUnbuilt error → ⊥) }
-{
-    causes_are_kept();
-    let program = read(alloc, source)?;
-    Ok(check(alloc, program)?)
-}
-
-/// The text that a task makes of a source.
-fn text_for(alloc: Global, task: Task, source: &[u8]) -> Result<Vec<u8>, CompileError>
-    requires { length source.now ≤ longest_source }
-    ensures made { IfOk result (λ text. IsMade task source.now text.items) }
-    ensures causes { IfErr result (λ error. IsCauseFor task source.now error) }
-{
-    match task {
-        Task::Check => Ok(report_on(alloc, &checked(alloc, source)?)?),
-        Task::ShowSource => Ok(print(alloc, checked(alloc, source)?.program())?),
-        Task::ShowDnf => Ok(forms_of(alloc, FormKind::Normal, &checked(alloc, source)?)?),
-        Task::ShowOnf => Ok(forms_of(alloc, FormKind::Operational, &checked(alloc, source)?)?),
-        Task::ShowNest => Ok(nests_text(alloc, &built_program(alloc, source)?)?),
-        Task::Compile => compile(alloc, source),
-    }
-}
 
 /// The text that a task makes of the source of this name.
 fn source_answer<'a, F: Shelf>(
@@ -212,6 +178,10 @@ pub fn psi<F: Shelf, K: Sink, E: Sink>(
     ensures misuse { IsMisuse (map string_bytes words.now)
         → (result ≡ 1) ⊎ ((result ≡ 3) × Rose (E.faults err.old) (E.faults err.new)) }
     ensures quiet { result ≢ 0 → result ≢ 3 → K.held out.new ≡ K.held out.old }
+    // 2 comes only where a read of a file of the words failed: the count rose in this call, and its last failed name is that file's.
+    ensures unreadable { result ≡ 2 → (name : List ℕ)
+        × IsUnreadable (map string_bytes words.now) (shelf_view F.Shelf shelf.old) (shelf_view F.Shelf shelf.new) name
+        × Appends (E.held err.old) (E.held err.new) (cannot_read_line name) }
     // A failed put answers 3, and a failed read 2 or 3, or 10 where there is no memory for its line.
     ensures puts_counted { result ≢ 3
         → (K.faults out.new ≡ K.faults out.old) × (E.faults err.new ≡ E.faults err.old) }

@@ -221,6 +221,6 @@ pub(crate) fn refuse<E: Sink>(alloc: Global, err: &mut E, refusal: Refusal<'_>) 
     }
     match line_of(alloc, refusal) {
         Ok(line) => put_line(err, refusal.status(), &line),
-        Err(NoMemory) => put_line(err, Refusal::Memory.status(), NO_MEMORY),
+        Err(NoMemory) => put_line(err, Status::NO_MEMORY, NO_MEMORY),
     }
 }

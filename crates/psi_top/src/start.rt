@@ -1,5 +1,6 @@
 // The program: the words that it is started with, real files and the standard streams.
-ghost use Rattle.std.specs.Prelude.{◌≡◌, ℕ, ◌⊎◌, List, [], ◌∷◌, Contains};
+ghost use Rattle.std.specs.Prelude.{◌≡◌, ◌≢◌, ℕ, ◌⊎◌, List, [], ◌∷◌, Contains};
+ghost use Rattle.std.specs.IoError.{error_kind};
 ghost use Rattle.std.specs.Process.{exit_status};
 ghost use Rattle.psi_top.specs.Outcome.{IsDue, Outcome};
 ghost use Rattle.psi_top.specs.Put.{IsPut};
@@ -9,7 +10,7 @@ use crate::program::psi;
 use crate::status::Status;
 use psi_edges::{DiskShelf, ErrSink, OutSink, Shelf, Sink};
 use std::env::Env;
-use std::io::{Stderr, Stdout};
+use std::io::{ErrorKind, Stderr, Stdout};
 use std::process::ExitCode;
 use std::rt::Files;
 use std::{env, io};
@@ -21,6 +22,18 @@ fn words<R: Env + AllocGlobal>(rt: &R) -> io::Result<Vec<String>> {
         words.push(word)?;
     }
     Ok(words)
+}
+
+/// With what the program ends where its words cannot be had: there is no memory for them, or they are no text.
+fn status_without_words(error: &io::Error) -> Status
+    ensures memory { error_kind error.now ≡ ErrorKind.OutOfMemory → result ≡ 10 }
+    ensures no_text { error_kind error.now ≢ ErrorKind.OutOfMemory → result ≡ 1 }
+    ensures among { Contains (1 ∷ 10 ∷ []) result }
+{
+    if error.kind() == ErrorKind::OutOfMemory {
+        return Status::NO_MEMORY;
+    }
+    Status::MISUSE
 }
 
 /// Runs the command that the program is started with. Where its words cannot be had, nothing is put.
@@ -39,8 +52,7 @@ fn run_over<R: Env + AllocGlobal, F: Shelf, K: Sink, E: Sink>(
 {
     let status = match words(rt) {
         Ok(words) => psi(rt.alloc(), &words, shelf, out, err),
-        Err(error) if error.kind() == io::ErrorKind::OutOfMemory => Status::NO_MEMORY,
-        Err(_) => Status::MISUSE,
+        Err(error) => status_without_words(&error),
     };
     ExitCode::from(status.byte())
 }

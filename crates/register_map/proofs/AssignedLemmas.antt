@@ -48,14 +48,14 @@ behind-least : (o : Option ℕ) (word : ℕ) → word ≤ word_behind o word
 behind-least None word = omega arith
 behind-least (Some n) word = omega arith
 
-behind-most : (o : Option ℕ) (word : ℕ) → word_behind o word ≤ suc word
+pub behind-most : (o : Option ℕ) (word : ℕ) → word_behind o word ≤ suc word
 behind-most None word = omega arith
 behind-most (Some n) word = omega arith
 
 -- ---- all codes
 
 module _ (marks : ℕ → Option ℕ) where
-  words-least : (word : ℕ) (codes : List ℕ) → word ≤ words_behind marks word codes
+  pub words-least : (word : ℕ) (codes : List ℕ) → word ≤ words_behind marks word codes
   words-least word [] = omega arith
   words-least word (x ∷ codes) =
       omega (arith, behind-least (marks x) word, words-least (word_behind (marks x) word) codes)

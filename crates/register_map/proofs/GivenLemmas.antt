@@ -1,16 +1,16 @@
 -- The machine registers that are given, none of them twice, and the homes of a nest's codes.
-use Rattle.std.specs.Prelude.{◌≡◌, ℕ, suc, ◌+◌, ◌<◌, ◌≤◌, ◌==◌, ◌⊎◌, Bool, true, false, List, [], ◌∷◌, length, None, Some, nat_lt, not, position}
-use Rattle.std.specs.List.{position_or_len}
+use Rattle.std.specs.Prelude.{◌≡◌, ℕ, suc, ◌+◌, ◌^◌, Option, ◌<◌, ◌≤◌, ◌==◌, ◌⊎◌, Bool, true, false, List, [], ◌∷◌, length, None, Some, nat_lt, not, position}
+use Rattle.std.specs.List.{AllByRecursion, position_or_len}
 use Rattle.std.proofs.Common.{cond, get_or, refl, ap, sym, ◌∙◌, subst, arith, inl, inr}
 use Rattle.std.proofs.lemmas.Bool.{eqb-true, ltb-false, ltb-true}
 use Rattle.std.proofs.lemmas.Bool.Decides.{nat_tests}
 use Rattle.std.proofs.lemmas.Option.{option_and_then_some}
-use Rattle.register_map.specs.declared.home.Home.{Home}
+use Rattle.loop_ir.specs.Running.{Key}
 use Rattle.register_map.specs.declared.home.Home.TheVariants as home
-use Rattle.register_map.specs.Assigned.{assigned, given_to, mark, register_at, words_behind}
+use Rattle.register_map.specs.Assigned.{assigned, given_to, mark, register_at, word_behind, words_behind}
 use Rattle.register_map.specs.Codes.{IsRising}
-use Rattle.register_map.specs.Homes.{IsGiven, IsHome, code, is_given}
-use Rattle.register_map.proofs.AssignedLemmas.{home_at, last-given, register-marked, spill-below}
+use Rattle.register_map.specs.Homes.{IsGiven, code, home_of, is_given}
+use Rattle.register_map.proofs.AssignedLemmas.{behind-most, home_at, last-given, register-marked, spill-below}
 use Rattle.register_map.proofs.CodeLemmas.{key-of}
 
 -- ---- machine registers
@@ -78,14 +78,22 @@ mark-apart marked q p r e f =
 
 -- ---- what is given
 
-home-is : (marked codes : List ℕ) (q : ℕ) (home : Home) → home_at (assigned (mark marked) 0 codes) q ≡ Some home
-    → IsHome (words_behind (mark marked) 0 codes) home
-home-is marked codes q (home.Register r) e = mark-given marked q r (register-marked (mark marked) 0 codes q r e)
-home-is marked codes q (home.Spill s) e = spill-below (mark marked) 0 codes q s e
+pub given-registers : (marked codes : List ℕ) (key : Key) (r : ℕ) → home_of (given_to marked codes) key ≡ Some (home.Register r)
+    → is_given r ≡ true
+given-registers marked codes key r e = mark-given marked (code key) r (register-marked (mark marked) 0 codes (code key) r e)
 
-pub given-is : (marked codes : List ℕ) → IsRising 0 codes → IsGiven (given_to marked codes)
-given-is marked codes rising = record {
-  each = λ key home e. home-is marked codes (code key) home e;
+-- rising codes below a number get spill words below it
+pub words-few : (marks : ℕ → Option ℕ) (word low most : ℕ) (codes : List ℕ) → word ≤ low → low ≤ most → IsRising low codes
+    → AllByRecursion (λ q. q < most) codes → words_behind marks word codes ≤ most
+words-few marks word low most [] h k rising below = omega (arith, h, k)
+words-few marks word low most (q ∷ codes) h k rising below =
+    words-few marks (word_behind (marks q) word) (suc q) most codes (omega (arith, behind-most (marks q) word, h, rising.0)) (omega (arith, below.0))
+    rising.1 below.1
+
+pub given-is : (marked codes : List ℕ) → IsRising 0 codes → AllByRecursion (λ q. q < 2 ^ 31) codes → IsGiven (given_to marked codes)
+given-is marked codes rising low = record {
+  below = λ key s e. spill-below (mark marked) 0 codes (code key) s e;
+  few = words-few (mark marked) 0 0 (2 ^ 31) codes (omega arith) (omega arith) rising low;
   least = elim (last-given (mark marked) 0 0 codes rising) [
     | inl none ↦ inl none
     | inr last ↦

@@ -1,21 +1,22 @@
 -- The homes of the codes that a nest names fit it, and their spill words are no greater than their ranks.
-use Rattle.std.specs.Prelude.{◌≡◌, ℕ, suc, ◌<◌, ◌≤◌, true, List, Option, None, Some, IsSome, is_some}
+use Rattle.std.specs.Prelude.{◌≡◌, ℕ, suc, ◌^◌, ◌<◌, ◌≤◌, true, List, Option, None, Some, IsSome, is_some}
 use Rattle.std.specs.List.{AllByRecursion, Contains}
 use Rattle.std.proofs.Common.{rules, refl, sym, ◌∙◌, subst, arith}
 use Rattle.std.proofs.lemmas.Bool.{false≢true}
 use Rattle.loop_ir.specs.Kept.{EachNamed}
 use Rattle.loop_ir.specs.Needed.{Keys, none}
-use Rattle.loop_ir.specs.Running.{Key}
-use Rattle.loop_ir.specs.Steps.{Steps}
+use Rattle.loop_ir.specs.Costs.{named}
+use Rattle.loop_ir.specs.Running.{Key, Pointer, Register}
+use Rattle.loop_ir.specs.Steps.{Steps, End, Then, For, If}
 use Rattle.register_map.specs.declared.home.Home.TheVariants as home
 use Rattle.register_map.specs.Assigned.{assigned, given_to, mark}
 use Rattle.register_map.specs.Codes.{IsRising, codes_of, has_weight, is_among}
-use Rattle.register_map.specs.Fits.{IsFit, IsRanked}
-use Rattle.register_map.specs.Homes.{Given, code, home_of}
+use Rattle.register_map.specs.Fits.{IsFit, IsRanked, NamesFew}
+use Rattle.register_map.specs.Homes.{Given, code, home_of, number_of}
 use Rattle.register_map.proofs.AssignedLemmas.{assigned-apart, assigned-there, home_at, spill-ranked}
 use Rattle.register_map.proofs.CodeLemmas.{all-among, all-at, all-named, code-apart, each-named}
 use Rattle.register_map.proofs.FitLemmas.{NeedsNamed, apart-fits}
-use Rattle.register_map.proofs.GivenLemmas.{mark-apart}
+use Rattle.register_map.proofs.GivenLemmas.{given-registers, mark-apart}
 use Rattle.register_map.proofs.RankLemmas.{below, below-next, below-rises}
 use Rattle.register_map.proofs.TreeLemmas.{all-weaker}
 
@@ -45,6 +46,20 @@ pub weighed-codes : (steps : Steps) (weights : List (ℕ × ℕ)) (codes items :
 weighed-codes steps weights codes items e rising one other =
     subst (AreCodes steps) (sym e) (record { rising = rising; same = λ q. one q ∙ other q })
 
+-- ---- numbers
+
+named-follows : (P Q : Key → Type 0) → ((key : Key) → P key → Q key) → (steps : Steps) → EachNamed P steps → EachNamed Q steps
+named-follows P Q f End h = tt
+named-follows P Q f (Then action rest) h = (all-weaker f (named action) h.0, named-follows P Q f rest h.1)
+named-follows P Q f (For counter turns body rest) h =
+    (f (Register counter) h.0, (named-follows P Q f body h.1.0, named-follows P Q f rest h.1.1))
+named-follows P Q f (If left below one other rest) h =
+    (f (Register left) h.0, (named-follows P Q f one h.1.0, (named-follows P Q f other h.1.1.0, named-follows P Q f rest h.1.1.1)))
+
+number-low : (key : Key) → number_of key < 2 ^ 30 → code key < 2 ^ 31
+number-low (Register number) h = omega (arith, h)
+number-low (Pointer number) h = omega (arith, h)
+
 module _ (steps : Steps) (marked codes : List ℕ) (are : AreCodes steps codes) where
   codes-homed : AllByRecursion (λ q. is_some (home_at (assigned (mark marked) 0 codes) q) ≡ true) (codes_of steps)
   codes-homed =
@@ -61,10 +76,17 @@ module _ (steps : Steps) (marked codes : List ℕ) (are : AreCodes steps codes) 
   homes-fit needs = record {
     there = each-named (λ q. IsSome (home_at (assigned (mark marked) 0 codes) q)) steps
         (all-weaker (λ q h. some-is (home_at (assigned (mark marked) 0 codes) q) h) (codes_of steps) codes-homed);
+    registers = given-registers marked codes;
     fits = apart-fits (homed (given_to marked codes)) (home_of (given_to marked codes)) keys-apart needs steps none
         (each-named (λ q. is_some (home_at (assigned (mark marked) 0 codes) q) ≡ true) steps codes-homed)
         (λ key never. absurd (false≢true never));
   }
+
+  pub codes-low : NamesFew steps → AllByRecursion (λ q. q < 2 ^ 31) codes
+  codes-low few =
+      let each = named-follows (λ key. number_of key < 2 ^ 30) (λ key. code key < 2 ^ 31) number-low steps few in
+      all-among (λ q. q < 2 ^ 31) codes
+      (λ q there. all-at (λ q. q < 2 ^ 31) (codes_of steps) (all-named (λ q. q < 2 ^ 31) steps each) q (sym (are.same q) ∙ there))
 
   pub homes-ranked : (others : List ℕ) → EachNamed (λ key. Contains others (code key)) steps → IsRanked others (given_to marked codes)
   homes-ranked others each = λ key word e.

@@ -1,3 +1,4 @@
+mod ExampleLemmas
 mod AssignedLemmas
 mod CodeLemmas
 mod DepthLemmas

@@ -1,6 +1,6 @@
 -- When homes fit a nest: what is needed at one point never shares a home, and what is set takes nothing away that is needed behind it.
 -- This project's own.
-use Rattle.std.specs.Prelude.{◌≡◌, ℕ, ◌≤◌, nat_lt, ◌||◌, true, List, [], ◌∷◌, Option, Some, IsSome}
+use Rattle.std.specs.Prelude.{◌≡◌, ℕ, ◌^◌, ◌<◌, ◌≤◌, nat_lt, ◌||◌, true, List, [], ◌∷◌, Option, Some, IsSome}
 use Rattle.std.specs.List.{count_by}
 use Rattle.loop_ir.specs.Kept.{EachNamed}
 use Rattle.loop_ir.specs.Needed.{Keys, among, needed, none, sets}
@@ -8,7 +8,7 @@ use Rattle.loop_ir.specs.Running.{Key, Register, is_key}
 use Rattle.loop_ir.specs.Steps.{Steps, End, Then, For, If}
 use Rattle.register_map.specs.declared.home.Home.{Home}
 use Rattle.register_map.specs.declared.home.Home.TheVariants as home
-use Rattle.register_map.specs.Homes.{Given, code, home_of}
+use Rattle.register_map.specs.Homes.{Given, code, home_of, is_given, number_of}
 
 abbrev pub Homes : Type 0
 Homes = Key → Option Home
@@ -39,10 +39,15 @@ Fits home (If left below one other rest) after =
     AreApart home (needed (If left below one other rest) after)
     × (Fits home one (needed rest after) × (Fits home other (needed rest after) × Fits home rest after))
 
--- each register and place of a nest has a home, and the homes fit it
+-- each register and place of a nest has a home, the machine registers are those that are given, and the homes fit the nest
 pub record IsFit (nest : Steps) (given : Given) : Type 0 where
   pub there : EachNamed (λ key. IsSome (home_of given key)) nest
+  pub registers : (key : Key) (number : ℕ) → home_of given key ≡ Some (home.Register number) → is_given number ≡ true
   pub fits : Fits (home_of given) nest none
+
+-- the registers and places of a nest have numbers below 2 ^ 30
+abbrev pub NamesFew : Steps → Type 0
+NamesFew nest = EachNamed (λ key. number_of key < 2 ^ 30) nest
 
 -- a spill word is at most the number of those of these codes that are smaller
 abbrev pub IsRanked : List ℕ → Given → Type 0

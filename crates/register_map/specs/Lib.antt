@@ -1,4 +1,5 @@
 pub mod Assigned
 pub mod Codes
+pub mod FitExamples
 pub mod Fits
 pub mod Homes

@@ -1,6 +1,6 @@
 // Each register and place of a nest gets a home of its own.
-ghost use Rattle.std.specs.Prelude.{◌≡◌, ◌≤◌, ◌++◌, ◌∷◌, [], ℕ, nat_eq, IfOk, OnOk, List, None, Some};
-ghost use Rattle.std.specs.List.{Contains};
+ghost use Rattle.std.specs.Prelude.{◌≡◌, ◌<◌, ◌≤◌, ◌^◌, ◌++◌, ◌∷◌, [], ℕ, nat_eq, IfOk, OnOk, List, None, Some};
+ghost use Rattle.std.specs.List.{AllByRecursion, Contains};
 ghost use Rattle.indexmap.specs.IndexMap.{get};
 ghost use Rattle.loop_ir.specs.Kept.{EachNamed};
 ghost use Rattle.loop_ir.specs.Pool.{tree};
@@ -8,7 +8,7 @@ ghost use Rattle.loop_ir.specs.Running.{Key};
 ghost use Rattle.register_map.specs.Assigned.{given_to, home_for, word_behind};
 ghost use Rattle.register_map.specs.Codes.{IsRising, has_weight, is_among};
 ghost use Rattle.register_map.specs.declared.home.Home.TheVariants as home;
-ghost use Rattle.register_map.specs.Fits.{IsFit, IsRanked};
+ghost use Rattle.register_map.specs.Fits.{IsFit, IsRanked, NamesFew};
 ghost use Rattle.register_map.specs.Homes.{code, home_of};
 
 use crate::home::{Home, Homes};
@@ -25,6 +25,7 @@ use std::collections::BTreeMap;
 /// are named most, where each mention counts as often as the loops around it turn, and a counter four
 /// times in each turn of its loop, and spill words to the others, in order.
 pub fn assign(alloc: Global, nest: &Nest) -> Result<Homes, NoMemory>
+    requires { NamesFew (tree nest.now) }
     ensures fits { IfOk result (λ homes. IsFit (tree nest.now) homes) }
     ensures ranked { (codes : List ℕ) → EachNamed (λ key. Contains codes (code key)) (tree nest.now)
         → IfOk result (IsRanked codes) }
@@ -49,7 +50,8 @@ fn codes_of(alloc: Global, weights: &BTreeMap<u64, u64>) -> Result<Vec<u64>, NoM
 /// Homes for codes in rising order: machine registers for those that are marked, spill words for
 /// the others.
 fn homes_of(alloc: Global, codes: &[u64], marked: &[u64]) -> Result<Homes, NoMemory>
-    requires { IsRising 0 codes.now }
+    requires rising { IsRising 0 codes.now }
+    requires low { AllByRecursion (λ code. code < 2 ^ 31) codes.now }
     ensures { IfOk result (λ homes. homes ≡ given_to marked.now codes.now) }
 {
     let mut homes = IndexMap::new(alloc);
@@ -67,7 +69,8 @@ fn give_home(
     marked: Option<u8>,
     word: u32,
 ) -> Result<u32, NoMemory>
-    requires { get nat_eq homes.old code ≡ None }
+    requires fresh { get nat_eq homes.old code ≡ None }
+    requires room { word ≤ 2 ^ 31 }
     ensures given { OnOk result (homes.new.entries ≡ homes.old.entries ++ (code, home_for marked word) ∷ []) }
     ensures word { IfOk result (λ next. next ≡ word_behind marked word) }
 {
@@ -77,9 +80,8 @@ fn give_home(
             Ok(word)
         }
         None => {
-            let next = word.checked_add(1).ok_or(NoMemory)?;
             homes.insert(code, Home::Spill(word))?;
-            Ok(next)
+            Ok(word + 1)
         }
     }
 }

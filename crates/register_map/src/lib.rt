@@ -4,10 +4,9 @@
 
 mod assignment;
 mod codes;
+pub mod fit_examples;
 mod home;
 mod marks;
-#[cfg(test)]
-mod tests;
 mod weights;
 
 pub use assignment::assign;

@@ -1,7 +1,6 @@
 -- Lines that come behind others, with the steps that they make.
-use Rattle.std.specs.Prelude.{◌≡◌, ℕ, ◌+◌, List, ◌++◌, length, Result, IfOk}
+use Rattle.std.specs.Prelude.{◌≡◌, ℕ, ◌+◌, List, ◌++◌, length}
 use Rattle.std.proofs.Common.{ap, ◌∙◌, append_assoc, length-append}
-use Rattle.std.proofs.lemmas.Result.{IfOk-weaker}
 use Rattle.rv_line.specs.declared.line.Line.{Line}
 use Rattle.rv_emit.specs.Emitting.{Piece, behind}
 use Rattle.rv_emit.specs.Programs.{Emits}
@@ -20,15 +19,3 @@ emits-behind first next old mid new steps more one two =
       ap (λ (n : ℕ). n + more) one.1 ∙ ap (λ (n : ℕ). (first (length old)).steps + n) two.1
           ∙ ap (λ (piece : Piece). (first (length old)).steps + piece.steps) further,
     )
-
--- so where the steps are added
-pub emits-added : {E : Type 0} (sum : Result ℕ E) (first next : ℕ → Piece) (old mid new : List Line) (steps more : ℕ)
-    → Emits first old mid steps → Emits next mid new more → IfOk sum (λ number. number ≡ steps + more)
-    → IfOk sum (Emits (λ at. behind at (first at) next) old new)
-emits-added sum first next old mid new steps more one two same =
-    let both = emits-behind first next old mid new steps more one two in
-    IfOk-weaker sum (λ number. number ≡ steps + more) (Emits (λ at. behind at (first at) next) old new) (λ number e. (
-      both.0,
-      e
-          ∙ both.1,
-    )) same

@@ -20,7 +20,8 @@ use Rattle.rv_steps.specs.Good.{is_kept}
 use Rattle.rv_steps.specs.Kinds.{is_base, is_free}
 use Rattle.rv_emit.specs.Emitting.{home_at, plan_of, program}
 use Rattle.rv_emit.specs.Pricing.{are_base, is_base_action, is_base_op}
-use Rattle.rv_emit.specs.Simulating.{AreReady}
+use Rattle.rv_emit.specs.Simulating.{AreHomed}
+use Rattle.rv_emit.proofs.SiteLemmas.{home-lies}
 use Rattle.rv_emit.proofs.FormLemmas.{Admits, IsGood, NestIsGood, OpIs, OpsAre, program_fine, small_immediate}
 
 -- ---- registers
@@ -116,16 +117,16 @@ any_ops (Then action rest) = (any_op action, any_ops rest)
 any_ops (For counter turns body rest) = (any_ops body, any_ops rest)
 any_ops (If left below one other rest) = (any_ops one, (any_ops other, any_ops rest))
 
-pub ready_good : (spill : ℕ) (nests : List (Steps × Given)) → AreReady spill nests → AllByRecursion (NestIsGood MayWrite AnyOp spill) nests
+pub ready_good : (spill : ℕ) (nests : List (Steps × Given)) → AreHomed spill nests → AllByRecursion (NestIsGood MayWrite AnyOp spill) nests
 ready_good spill [] ready = tt
 ready_good spill (nest ∷ nests) ready =
     let own : NestIsGood MayWrite AnyOp spill nest = record {
-      homes = λ key. home_good MayWrite given_writes nest.1.spill (home_of nest.1 key) (ready.0.given.each key);
+      homes = λ key. home_good MayWrite given_writes nest.1.spill (home_of nest.1 key) (home-lies nest.0 nest.1 ready.0.given ready.0.fit key);
       ops = any_ops nest.0;
     } in
     (own, ready_good spill nests ready.1)
 
-pub lines_are_free : ConstantsFit → (nests : List (Steps × Given)) (spill : ℕ) → AreReady spill nests
+pub lines_are_free : ConstantsFit → (nests : List (Steps × Given)) (spill : ℕ) → AreHomed spill nests
     → IsTrue (list_all is_free (program spill nests 0).lines)
 lines_are_free c nests spill ready =
     program_fine AreFree MayWrite MayRead AnyOp (admits_free c) (λ at. refl) spill nests 0 (ready_good spill nests ready)
@@ -286,7 +287,7 @@ admits_fit c pieces count few = record {
   choice = λ at left one other l p q. choice_fits pieces count at left few l one other p q;
 }
 
-pub lines_fit : ConstantsFit → PiecesFit → (nests : List (Steps × Given)) (spill : ℕ) → AreReady spill nests
+pub lines_fit : ConstantsFit → PiecesFit → (nests : List (Steps × Given)) (spill : ℕ) → AreHomed spill nests
     → length (program spill nests 0).lines ≤ 262143 → FitLines (length (program spill nests 0).lines) 0 (program spill nests 0).lines
 lines_fit c pieces nests spill ready few =
     let count = length (program spill nests 0).lines in

@@ -1,3 +1,4 @@
+mod AccessLemmas
 mod AreaLemmas
 mod ChoiceLemmas
 pub mod ComputingLemmas
@@ -26,13 +27,14 @@ mod ProgramLemmas
 mod ReadLemmas
 pub mod RegisterLemmas
 mod RepayLemmas
+mod RoomLemmas
 mod SetLemmas
 mod ShiftLemmas
 mod ShowLemmas
 mod SimulateLemmas
 mod SiteLemmas
 mod SizeLemmas
+mod SpillLemmas
 mod StepLemmas
-mod TestLemmas
 mod TurnLemmas
 mod WordLemmas

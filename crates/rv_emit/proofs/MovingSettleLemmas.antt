@@ -1,6 +1,7 @@
 -- All that is owed is repaid, home by home: what each home held less what it owed is what it holds.
 use Rattle.std.specs.Prelude.{◌≡◌, ◌≢◌, ℕ, ◌+◌, Bool, true, false, ℤ, pos, ◌+ℤ◌, ◌*ℤ◌, ◌-ℤ◌}
 use Rattle.std.specs.Prelude.{List, [], ◌∷◌, ◌++◌, length, Some, if◌then◌else◌}
+use Rattle.std.specs.Int.{int_wrap, w64}
 use Rattle.std.proofs.Common.{refl, sym, ap, ◌∙◌, arith, length-append}
 use Rattle.std.proofs.lemmas.Bool.{true≢false}
 use Rattle.std.proofs.lemmas.Int.{ints}
@@ -21,7 +22,7 @@ use Rattle.rv_emit.specs.Showing.{AreHomes, HasBlock, HasRoom, Shows, held_in, s
 use Rattle.rv_emit.specs.Simulating.{Settling}
 use Rattle.rv_emit.specs.Walks.{Owed, is_home, owed_at}
 use Rattle.rv_emit.proofs.MovingRepayLemmas.{Repaid, leads-then, repay}
-use Rattle.rv_emit.proofs.PlaceNumberLemmas.{home-is, home-same}
+use Rattle.rv_emit.proofs.PlaceNumberLemmas.{home-is, home-same, words-less, wraps-again}
 use Rattle.rv_emit.proofs.SimulateLemmas.{in-order}
 
 -- ---- the test whether homes are the same
@@ -41,12 +42,13 @@ pub record Settled (lines : List Line) (base spill words at : ℕ) (owed : Owed)
 -- one home repays, and then this home holds its number less what the others owe it
 repaid : (lines : List Line) (base spill words at : ℕ) (one : Home) (amount : ℤ) (others : Owed) (c : Config)
     (done : Repaid lines base spill words at one amount c) (b : Bool) (to : Home) (z : ℤ) → is_home one to ≡ b → IsHome spill to
-    → held_in c to ≡ wrapped (z -ℤ pos 8 *ℤ (if b then amount +ℤ owed_at others to else owed_at others to))
+    → held_in c to ≡ wrapped (z -ℤ pos 8 *ℤ (if b then int_wrap w64 (amount +ℤ owed_at others to) else owed_at others to))
     → held_in done.run.last to ≡ wrapped (z -ℤ pos 8 *ℤ owed_at others to)
 repaid lines base spill words at one amount others c done true to z e there h =
     let same = home-is one to e in
     let rest = owed_at others to in
-    let from : held_in c one ≡ wrapped (z -ℤ pos 8 *ℤ (amount +ℤ rest)) = ap (held_in c) same ∙ h in
+    let from : held_in c one ≡ wrapped (z -ℤ pos 8 *ℤ (amount +ℤ rest)) =
+    ap (held_in c) same ∙ h ∙ words-less z (int_wrap w64 (amount +ℤ rest)) (amount +ℤ rest) (wraps-again (amount +ℤ rest)) in
     let sum : z -ℤ pos 8 *ℤ (amount +ℤ rest) +ℤ pos 8 *ℤ amount ≡ z -ℤ pos 8 *ℤ rest = omega (arith, ints) in
     ap (held_in done.run.last) (sym same) ∙ done.here (z -ℤ pos 8 *ℤ (amount +ℤ rest)) from ∙ ap wrapped sum
 repaid lines base spill words at one amount others c done false to z e there h = done.others to there (home-apart one to e) ∙ h

@@ -5,7 +5,7 @@ use Rattle.std.proofs.Common.{refl, ap, sym, ◌∙◌, subst, arith, append-nil
 use Rattle.std.proofs.lemmas.List.{take_more}
 use Rattle.loop_ir.specs.declared.step.Step.{Step}
 use Rattle.loop_ir.specs.declared.step.Step.TheVariants as step
-use Rattle.loop_ir.specs.Kept.{EachNamed}
+use Rattle.loop_ir.specs.Kept.{EachNamed, KeepsCounters}
 use Rattle.loop_ir.specs.Pool.{inner_lists, steps_of}
 use Rattle.loop_ir.specs.Running.{Key}
 use Rattle.loop_ir.specs.Steps.{Set, Copy, One, Two, Place, Spot, Walk, Read, Write, Steps, End, Then, For, If, joined}
@@ -159,6 +159,25 @@ named-at P inner (one ∷ list) zero d below h =
 named-at P inner (one ∷ list) (suc i) d below h =
     named-at P inner list i d (omega (arith, below))
     (named-at-joined P (steps_of inner (one ∷ [])) (steps_of inner list) (subst (EachNamed P) (steps-join inner (one ∷ []) list) h)).1
+
+-- ---- counters of a list
+
+counters-joined : (first second : Steps) → KeepsCounters (joined first second) → KeepsCounters first × KeepsCounters second
+counters-joined End second h = (tt, h)
+counters-joined (Then action rest) second h = counters-joined rest second h
+counters-joined (For counter turns body rest) second h =
+    let later = counters-joined rest second h.1.1 in ((h.0, (h.1.0, later.0)), later.1)
+counters-joined (If left below one other rest) second h =
+    let later = counters-joined rest second h.1.1 in ((h.0, (h.1.0, later.0)), later.1)
+
+pub counters-at : (inner : ℕ → Steps) (list : List Step) (i : ℕ) (d : Step) → i < length list → KeepsCounters (steps_of inner list)
+    → KeepsCounters (steps_of inner (get_or list i d ∷ []))
+counters-at inner [] i d below h = absurd (omega (arith, below))
+counters-at inner (one ∷ list) zero d below h =
+    (counters-joined (steps_of inner (one ∷ [])) (steps_of inner list) (subst KeepsCounters (steps-join inner (one ∷ []) list) h)).0
+counters-at inner (one ∷ list) (suc i) d below h =
+    counters-at inner list i d (omega (arith, below))
+    (counters-joined (steps_of inner (one ∷ [])) (steps_of inner list) (subst KeepsCounters (steps-join inner (one ∷ []) list) h)).1
 
 -- ---- a list that ends behind a step
 

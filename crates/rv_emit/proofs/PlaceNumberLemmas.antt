@@ -32,8 +32,11 @@ same-words x y e = sym (word-of-wrap x) ∙ ap (cast_unsigned w64) e ∙ word-of
 pub same-wraps : (x y : ℤ) → wrapped x ≡ wrapped y → int_wrap w64 x ≡ int_wrap w64 y
 same-wraps x y e = int_wrap-is x ∙ ap (cast_signed w64) e ∙ sym (int_wrap-is y)
 
+pub wraps-again : (z : ℤ) → int_wrap w64 (int_wrap w64 z) ≡ int_wrap w64 z
+wraps-again z = int_wrap_fits w64 (int_wrap w64 z) (SFits-int_wrap w64 z)
+
 pub wrapped-wrap : (z : ℤ) → wrapped (int_wrap w64 z) ≡ wrapped z
-wrapped-wrap z = same-words (int_wrap w64 z) z (int_wrap_fits w64 (int_wrap w64 z) (SFits-int_wrap w64 z))
+wrapped-wrap z = same-words (int_wrap w64 z) z (wraps-again z)
 
 -- a sum of which one number wrapped before
 pub sum-wraps : (x y z : ℤ) → wrapped x ≡ wrapped y → wrapped (x +ℤ z) ≡ wrapped (y +ℤ z)
@@ -49,7 +52,7 @@ pub wrapped-bytes : (words : ℤ) → wrapped (bytes words) ≡ wrapped (pos 8 *
 wrapped-bytes words = wrapped-wrap (pos 8 *ℤ words)
 
 -- so many words less, where two numbers of words are the same
-words-less : (x y z : ℤ) → int_wrap w64 y ≡ int_wrap w64 z → wrapped (x -ℤ pos 8 *ℤ y) ≡ wrapped (x -ℤ pos 8 *ℤ z)
+pub words-less : (x y z : ℤ) → int_wrap w64 y ≡ int_wrap w64 z → wrapped (x -ℤ pos 8 *ℤ y) ≡ wrapped (x -ℤ pos 8 *ℤ z)
 words-less x y z e =
     same-words (x -ℤ pos 8 *ℤ y) (x -ℤ pos 8 *ℤ z)
     (sym (int_wrap-sub_right w64 x (pos 8 *ℤ y))
@@ -108,6 +111,21 @@ home-apart one other apart = by (is_home one other) refl
 
 -- ---- what homes owe
 
+pub zero-wraps : int_wrap w64 (pos 0) ≡ pos 0
+unfolding int_wrap
+zero-wraps = refl
+
+-- a number of 64 signed bits
+pub owed-wraps : (owed : Owed) (home : Home) → int_wrap w64 (owed_at owed home) ≡ owed_at owed home
+owed-wraps [] home = zero-wraps
+owed-wraps (first ∷ others) home = by (is_home first.0 home) (owed-wraps others home)
+  where
+    by : (b : Bool) → int_wrap w64 (owed_at others home) ≡ owed_at others home
+        → int_wrap w64 (if b then int_wrap w64 (first.1 +ℤ owed_at others home) else owed_at others home)
+        ≡ (if b then int_wrap w64 (first.1 +ℤ owed_at others home) else owed_at others home)
+    by true rest = wraps-again (first.1 +ℤ owed_at others home)
+    by false rest = rest
+
 pub without-same : (owed : Owed) (one : Home) → owed_at (without owed one) one ≡ pos 0
 without-same [] one = refl
 without-same (first ∷ others) one = by (is_home first.0 one) refl (without-same others one)
@@ -126,20 +144,24 @@ without-other (first ∷ others) one other apart = by (is_home first.0 one) refl
     by true e rest =
         let out : is_home first.0 other ≡ false = home-apart first.0 other (λ same. apart (sym (home-is first.0 one e) ∙ same)) in rw out
         rest
-    by false e rest = ap (λ n. if is_home first.0 other then first.1 +ℤ n else n) rest
+    by false e rest = ap (λ n. if is_home first.0 other then int_wrap w64 (first.1 +ℤ n) else n) rest
 
 pub walk-same : (owed : Owed) (one : Home) (words : ℤ) → int_wrap w64 (owed_at (with_walk owed one words) one)
     ≡ int_wrap w64 (owed_at owed one +ℤ words)
-walk-same [] one words = let sum : words +ℤ pos 0 ≡ pos 0 +ℤ words = omega (arith, ints) in rw (home-same one) (ap (int_wrap w64) sum)
+walk-same [] one words =
+    let sum : words +ℤ pos 0 ≡ pos 0 +ℤ words = omega (arith, ints) in
+    rw (home-same one) (wraps-again (words +ℤ pos 0) ∙ ap (int_wrap w64) sum)
 walk-same (first ∷ others) one words = by (is_home first.0 one) refl (walk-same others one words)
   where
     by : (b : Bool) → is_home first.0 one ≡ b → int_wrap w64 (owed_at (with_walk others one words) one)
         ≡ int_wrap w64 (owed_at others one +ℤ words)
         → int_wrap w64 (owed_at (if b then (first.0, int_wrap w64 (first.1 +ℤ words)) ∷ others else first ∷ with_walk others one words) one)
-        ≡ int_wrap w64 ((if b then first.1 +ℤ owed_at others one else owed_at others one) +ℤ words)
+        ≡ int_wrap w64 ((if b then int_wrap w64 (first.1 +ℤ owed_at others one) else owed_at others one) +ℤ words)
     by true e rest =
         let sum : first.1 +ℤ words +ℤ owed_at others one ≡ first.1 +ℤ owed_at others one +ℤ words = omega (arith, ints) in
-        rw e (int_wrap-add_left w64 (first.1 +ℤ words) (owed_at others one) ∙ ap (int_wrap w64) sum)
+        rw e (wraps-again (int_wrap w64 (first.1 +ℤ words) +ℤ owed_at others one)
+        ∙ int_wrap-add_left w64 (first.1 +ℤ words) (owed_at others one) ∙ ap (int_wrap w64) sum
+        ∙ sym (int_wrap-add_left w64 (first.1 +ℤ owed_at others one) words))
     by false e rest = rw e rest
 
 pub walk-other : (owed : Owed) (one : Home) (words : ℤ) (other : Home) → one ≢ other
@@ -153,4 +175,4 @@ walk-other (first ∷ others) one words other apart = by (is_home first.0 one) r
     by true e rest =
         let out : is_home first.0 other ≡ false = home-apart first.0 other (λ same. apart (sym (home-is first.0 one e) ∙ same)) in rw out
         refl
-    by false e rest = ap (λ n. if is_home first.0 other then first.1 +ℤ n else n) rest
+    by false e rest = ap (λ n. if is_home first.0 other then int_wrap w64 (first.1 +ℤ n) else n) rest

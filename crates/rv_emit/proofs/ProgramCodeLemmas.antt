@@ -1,17 +1,19 @@
 -- The programs of nests, one nest after another.
-use Rattle.std.specs.Prelude.{◌≡◌, ℕ, zero, suc, ◌+◌, ◌<◌, ◌≤◌, pos, max, List, [], ◌∷◌, ◌++◌, length, drop}
+use Rattle.std.specs.Prelude.{◌≡◌, ℕ, zero, suc, ◌+◌, ◌^◌, ◌<◌, ◌≤◌, pos, max, List, [], ◌∷◌, ◌++◌, length, drop}
 use Rattle.std.specs.List.{AllByRecursion}
-use Rattle.std.proofs.Common.{refl, ap, ◌∙◌, arith, append_assoc, get_or, length-append}
+use Rattle.std.proofs.Common.{refl, ap, sym, subst, ◌∙◌, arith, append_assoc, get_or, length-append}
 use Rattle.std.proofs.lemmas.List.{drop_all, drop_more}
 use Rattle.loop_ir.specs.declared.step.Step.{Step}
 use Rattle.loop_ir.specs.Pool.{tree}
 use Rattle.loop_ir.specs.Steps.{Steps}
-use Rattle.register_map.specs.Homes.{Given}
+use Rattle.register_map.specs.Fits.{IsFit}
+use Rattle.register_map.specs.Homes.{Given, IsGiven}
 use Rattle.rv_line.specs.declared.line.Line.{Line}
 use Rattle.rv_line.specs.declared.line.Line.TheVariants.{Jalr}
 use Rattle.rv_emit.specs.Emitting.{emitted, plan_of, program}
-use Rattle.rv_emit.specs.Programs.{Emits, HaveHomes, most_spill, pairs}
-use Rattle.rv_emit.specs.Simulating.{AreReady}
+use Rattle.rv_emit.specs.Pricing.{total_cost, total_time}
+use Rattle.rv_emit.specs.Programs.{Emits, MayCome, most_spill, pairs}
+use Rattle.rv_emit.specs.Simulating.{AreHomed}
 
 -- ---- the most spill words
 
@@ -58,9 +60,22 @@ pairs-at P (nest ∷ nests) (home ∷ homes) zero d e same below h = h.0
 pairs-at P (nest ∷ nests) (home ∷ homes) (suc i) d e same below h =
     pairs-at P nests homes i d e (omega (arith, same)) (omega (arith, below)) h.1
 
-pub ready-homes : (spill : ℕ) (nests : List (Steps × Given)) → AreReady spill nests → AllByRecursion (λ nest. HaveHomes nest.1 nest.0) nests
-ready-homes spill [] h = tt
-ready-homes spill (nest ∷ nests) h = (h.0.fit.there, ready-homes spill nests h.1)
+pub homed : (spill : ℕ) (nests : List (List (List Step))) (homes : List Given) → most_spill homes ≤ spill → AllByRecursion IsGiven homes
+    → AllByRecursion (λ nest. IsFit nest.0 nest.1) (pairs nests homes) → AreHomed spill (pairs nests homes)
+homed spill [] homes within given fit = tt
+homed spill (nest ∷ nests) [] within given fit = tt
+homed spill (nest ∷ nests) (home ∷ homes) within given fit = (
+  record { given = given.0; within = omega (arith, within); fit = fit.0 },
+  homed spill nests homes (omega (arith, within)) given.1 fit.1,
+)
+
+-- ---- room
+
+-- a program within the bounds may come behind no line
+pub room-within : (spill : ℕ) (all : List (Steps × Given)) (old : List Line) → old ≡ [] → length (program spill all 0).lines ≤ total_cost all
+    → (program spill all 0).steps ≤ total_time all → total_cost all ≤ 245760 → total_time all ≤ 2 ^ 50 → MayCome (program spill all) old
+room-within spill all old none lines steps few short =
+    subst (MayCome (program spill all)) (sym none) (omega (arith, lines, few), omega (arith, steps, short))
 
 -- ---- what is emitted, with what is left
 
@@ -85,6 +100,41 @@ one-nest spill all left nest homes old now new steps more so_far emits =
       made = let same = ap (λ (n : ℕ). (program spill left n).steps) at in let whole = so_far.made in
           omega (arith, same, whole, emits.1);
     }
+
+pub program-is : (spill : ℕ) (all : List (Steps × Given)) (old new : List Line) (steps : ℕ) → old ≡ [] → Emits (program spill all) old new steps
+    → (new ≡ (program spill all 0).lines) × (steps ≡ (program spill all 0).steps)
+program-is spill all old new steps none h = (
+  subst (λ (list : List Line). new ≡ list ++ (program spill all (length list)).lines) none h.0,
+  subst (λ (list : List Line). steps ≡ (program spill all (length list)).steps) none h.1,
+)
+
+-- the next nest has room, and the steps so far with its own fit 64 bits
+next-whole : (spill : ℕ) (all left : List (Steps × Given)) (nest : Steps) (homes : Given) (old now : List Line) (steps : ℕ)
+    → Leads spill all ((nest, homes) ∷ left) old now steps → MayCome (program spill all) old
+    → (length now + length (emitted (plan_of spill (nest, homes)) [] nest (length now)).lines < 2 ^ 32)
+    × (steps + (emitted (plan_of spill (nest, homes)) [] nest (length now)).steps < 2 ^ 64)
+next-whole spill all left nest homes old now steps so_far room =
+    let piece = emitted (plan_of spill (nest, homes)) [] nest (length now) in
+    let rest = program spill left (length now + length piece.lines) in
+    let both = sym (length-append now (piece.lines ++ rest.lines)) ∙ ap length so_far.lines
+    ∙ length-append old (program spill all (length old)).lines in
+    (omega (arith, both, length-append piece.lines rest.lines, room.0), omega (arith, so_far.made, room.1))
+
+pub next-room : (spill : ℕ) (all left : List (Steps × Given)) (nest : Steps) (homes : Given) (old now : List Line) (steps : ℕ)
+    → Leads spill all ((nest, homes) ∷ left) old now steps → MayCome (program spill all) old
+    → MayCome (emitted (plan_of spill (nest, homes)) [] nest) now
+next-room spill all left nest homes old now steps so_far room =
+    let whole = next-whole spill all left nest homes old now steps so_far room in (whole.0, omega (arith, whole.1))
+
+pub next-made : (spill : ℕ) (all left : List (Steps × Given)) (nest : Steps) (homes : Given) (old now new : List Line) (steps more : ℕ)
+    → Leads spill all ((nest, homes) ∷ left) old now steps → MayCome (program spill all) old
+    → Emits (emitted (plan_of spill (nest, homes)) [] nest) now new more → steps + more < 2 ^ 64
+next-made spill all left nest homes old now new steps more so_far room emits =
+    let whole = next-whole spill all left nest homes old now steps so_far room in omega (arith, whole.1, emits.1)
+
+pub last-made : (spill : ℕ) (all : List (Steps × Given)) (old now : List Line) (steps : ℕ) → Leads spill all [] old now steps
+    → MayCome (program spill all) old → steps + 1 < 2 ^ 64
+last-made spill all old now steps so_far room = omega (arith, so_far.made, room.1)
 
 pub at-return : (spill : ℕ) (all : List (Steps × Given)) (old now new : List Line) (steps : ℕ) → Leads spill all [] old now steps
     → new ≡ now ++ Jalr 0 (pos 0) 1 ∷ [] → Emits (program spill all) old new (steps + 1)

@@ -23,7 +23,8 @@ use Rattle.rv_emit.specs.Counting.{counts_down, reads_of, run_counting}
 use Rattle.rv_emit.specs.Emitting.{Plan, emitted, owed_after, plan_of, program}
 use Rattle.rv_emit.specs.MachineLaws.{MachineLaws}
 use Rattle.rv_emit.specs.Showing.{AreInOrder, AreTouches, HasBlock, IsSetting, IsTouch, Shows}
-use Rattle.rv_emit.specs.Simulating.{AreReady, IsReady, Performs, Simulates, StepsSimulate, are_steady, is_steady, run_each}
+use Rattle.rv_emit.specs.Simulating.{AreHomed, AreReady, IsReady, Performs, Simulates, StepsSimulate, are_steady, is_steady, run_each}
+use Rattle.rv_emit.proofs.SiteLemmas.{home-lies}
 use Rattle.rv_emit.proofs.CountingLemmas.{Grows, grows-on}
 use Rattle.rv_emit.proofs.LoopLemmas.{touched-before}
 use Rattle.rv_emit.proofs.SimulateLemmas.{in-order}
@@ -135,13 +136,13 @@ module _ (laws : ProgramLaws) (lines : List Line) (base spill : ℕ) (eights : b
       let after = run_each nests mid in
       let setting : IsSetting plan base count = record {
         room = record { aligned = eights; within = room; few = few };
-        homes = λ key home there. home-wider nest.1.spill spill home own.within (own.given.each key home there);
+        homes = λ key home there. home-wider nest.1.spill spill home own.homed.within (home-lies nest.0 nest.1 own.homed.given own.homed.fit key home there);
       } in
       let inner : AreTouches count mid = touched-before count mid after (each-grows laws nests mid) touches in
       let same : AreTouches count counting =
       subst (λ trace. AllByRecursion (IsTouch count) trace) alike.trace inner in
       let first : Simulates lines plan base at piece (is_steady steps) (owed_after plan [] steps) none state counting c =
-      laws.simulated lines plan base at [] steps none state c setting tt own.fit.there own.fit.fits own.counters own.sets own.tests fit
+      laws.simulated lines plan base at [] steps none state c setting tt own.homed.fit.there own.homed.fit.fits own.counters own.sets own.tests fit
       (nothing-needed plan base (needed steps none) state c own.free block words)
       (laws.machine.front lines at piece.lines more.lines stands) pc same in
       let d = first.last in
@@ -191,11 +192,15 @@ module _ (laws : ProgramLaws) (lines : List Line) (base spill : ℕ) (eights : b
     in_order = subst (λ accesses. AreInOrder base spill accesses going.touches) (sym going.leads.in_order) going.in_order;
   }
 
+homed-of : (spill : ℕ) (nests : List (Steps × Given)) → AreReady spill nests → AreHomed spill nests
+homed-of spill [] ready = tt
+homed-of spill (nest ∷ nests) ready = (ready.0.homed, homed-of spill nests ready.1)
+
 whole-stands : (laws : ProgramLaws) (piece : List Line) → StandsAt piece 0 piece
 whole-stands laws piece = subst (λ lines. StandsAt lines 0 piece) (append-nil piece) (laws.machine.stands [] piece [])
 
 pub programs-performed : (laws : ProgramLaws)
-    → ((nests : List (Steps × Given)) (spill : ℕ) → AreReady spill nests → IsTrue (list_all is_free (program spill nests 0).lines))
+    → ((nests : List (Steps × Given)) (spill : ℕ) → AreHomed spill nests → IsTrue (list_all is_free (program spill nests 0).lines))
     → (lines : List Line) (nests : List (Steps × Given)) (base spill : ℕ) (state : State) (c : Config)
     → base % 8 ≡ 0 → base + 8 * (spill + length state.words) ≤ 2 ^ 64 → spill ≤ most_words
     → AreReady spill nests → HoldsFit state → HasBlock base spill (length state.words) c
@@ -206,7 +211,7 @@ pub programs-performed : (laws : ProgramLaws)
     → Performs lines base spill (program spill nests 0).steps (are_steady nests) state (run_each nests state) c
 programs-performed laws frees lines nests base spill state c eights room few ready fit block words same short pc back touches =
     let piece = (program spill nests 0).lines in
-    let free : IsTrue (list_all is_free lines) = subst (λ all. IsTrue (list_all is_free all)) (sym same) (frees nests spill ready) in
+    let free : IsTrue (list_all is_free lines) = subst (λ all. IsTrue (list_all is_free all)) (sym same) (frees nests spill (homed-of spill nests ready)) in
     let stands : StandsAt lines 0 piece = subst (λ all. StandsAt all 0 piece) (sym same) (whole-stands laws piece) in
     performs laws lines base spill eights few free short (program spill nests 0).steps (are_steady nests) state (run_each nests state) c
     (nests-go laws lines base spill eights few free short nests 0 state c room ready fit block words stands pc back touches)

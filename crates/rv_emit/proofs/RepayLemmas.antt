@@ -19,6 +19,7 @@ use Rattle.rv_emit.specs.Emitting.{is_offset, near_lines, near_owed}
 use Rattle.rv_emit.specs.Moving.{advance_lines, fetch_lines, is_near, put_lines, reach_lines, reach_offset, reach_register, register_of, repay_lines, settle_lines}
 use Rattle.rv_emit.specs.Pricing.{width_of}
 use Rattle.rv_emit.specs.Walks.{Owed, bytes, is_home, owed_at, with_walk, without}
+use Rattle.rv_emit.proofs.PlaceNumberLemmas.{zero-wraps}
 use Rattle.rv_emit.proofs.ConstantLemmas.{bytes_few, bytes_wrap, constants_most, constants_two}
 
 -- a spill word that is not too far
@@ -120,12 +121,14 @@ repays_few of words =
 pub repays_nine : (of : Home) (words : ℤ) → repays of words ≤ trip of + 9
 repays_nine of words = omega (arith, repays_few of words, constants_most 31 (bytes words))
 
-pub repays_some : (of : Home) (words : ℤ) → int_eq words (pos 0) ≡ false → trip of + 1 ≤ repays of words
+repays_all : (of : Home) (words : ℤ) → int_eq words (pos 0) ≡ false
+    → repays of words ≡ trip of + length (advance_lines (register_of 30 of) (bytes words))
 unfolding trip_lines
+repays_all of words test = let all = trip_length of words in rw test all
+
+pub repays_some : (of : Home) (words : ℤ) → int_eq words (pos 0) ≡ false → trip of + 1 ≤ repays of words
 repays_some of words test =
-    let all = trip_length of words in
-    let some = advance_some (register_of 30 of) (bytes words) in
-    rw test (omega (arith, all, some))
+    omega (arith, repays_all of words test, advance_some (register_of 30 of) (bytes words))
 
 nothing_owed : (words : ℤ) → int_eq words (pos 0) ≡ true → words ≡ pos 0
 nothing_owed words test = (Decides-int_eq words (pos 0)).0 test
@@ -210,15 +213,26 @@ without_own (entry ∷ owed) of = without_by entry owed of (is_home entry.0 of) 
 pub without_settles : (owed : Owed) (of : Home) → settles (without owed of) ≤ settles owed
 without_settles owed of = omega (arith, without_own owed of)
 
+-- what wraps to a number that is not 0 is not 0
+wraps-some : (z : ℤ) → int_eq (int_wrap w64 z) (pos 0) ≡ false → int_eq z (pos 0) ≡ false
+wraps-some z h = by (int_eq z (pos 0)) refl
+  where
+    by : (b : Bool) → int_eq z (pos 0) ≡ b → b ≡ false
+    by true e =
+        let none : int_eq (int_wrap w64 z) (pos 0) ≡ true =
+        (Decides-int_eq (int_wrap w64 z) (pos 0)).1 (ap (int_wrap w64) (nothing_owed z e) ∙ zero-wraps) in
+        absurd (false≢true (sym h ∙ none))
+    by false e = refl
+
 -- one that owes has lines
 owes_by : (entry : Home × ℤ) (of : Home) (rest : ℤ) (own : ℕ) (test nothing : Bool) → is_home entry.0 of ≡ test
     → int_eq entry.1 (pos 0) ≡ nothing
     → (int_eq rest (pos 0) ≡ false → trip of + 1 ≤ own)
-    → int_eq (if test then entry.1 +ℤ rest else rest) (pos 0) ≡ false
+    → int_eq (if test then int_wrap w64 (entry.1 +ℤ rest) else rest) (pos 0) ≡ false
     → trip of + 1 ≤ (if test then repays entry.0 entry.1 + own else own)
 owes_by entry of rest own true true same none some h =
     let sum : entry.1 +ℤ rest ≡ rest = let no = nothing_owed entry.1 none in omega (arith, ints, no) in
-    let left : int_eq rest (pos 0) ≡ false = ap (λ z. int_eq z (pos 0)) (sym sum) ∙ h in
+    let left : int_eq rest (pos 0) ≡ false = ap (λ z. int_eq z (pos 0)) (sym sum) ∙ wraps-some (entry.1 +ℤ rest) h in
     omega (arith, some left)
 owes_by entry of rest own true false same much some h =
     let lines : trip of + 1 ≤ repays entry.0 entry.1 = rw (is_home_same entry.0 of same) (repays_some of entry.1 much) in
@@ -245,11 +259,25 @@ both_repay of first rest own false true p q some few =
 both_repay of first rest own false false p q some few =
     omega (arith, repays_nine of (first +ℤ rest), repays_some of first p, some q)
 
+-- what wraps takes no more lines
+wrapped_repays : (of : Home) (words : ℤ) → repays of (int_wrap w64 words) ≤ repays of words
+wrapped_repays of words = by (int_eq words (pos 0)) refl
+  where
+    by : (b : Bool) → int_eq words (pos 0) ≡ b → repays of (int_wrap w64 words) ≤ repays of words
+    by true e =
+        let none = nothing_owed words e in
+        let same = ap (repays of) (ap (int_wrap w64) none ∙ zero-wraps ∙ sym none) in
+        omega (arith, same)
+    by false e =
+        let count = ap (λ n. length (advance_lines (register_of 30 of) n)) (bytes_wrap words) in
+        omega (arith, repays_most of (int_wrap w64 words), repays_all of words e, count)
+
 once_by : (entry : Home × ℤ) (of : Home) (rest : ℤ) (own : ℕ) (test : Bool) → is_home entry.0 of ≡ test
     → (int_eq rest (pos 0) ≡ false → trip of + 1 ≤ own) → repays of rest ≤ own + 7
-    → repays of (if test then entry.1 +ℤ rest else rest) ≤ (if test then repays entry.0 entry.1 + own else own) + 7
+    → repays of (if test then int_wrap w64 (entry.1 +ℤ rest) else rest) ≤ (if test then repays entry.0 entry.1 + own else own) + 7
 once_by entry of rest own true same some few =
-    rw (is_home_same entry.0 of same) (both_repay of entry.1 rest own (int_eq entry.1 (pos 0)) (int_eq rest (pos 0)) refl refl some few)
+    let both = both_repay of entry.1 rest own (int_eq entry.1 (pos 0)) (int_eq rest (pos 0)) refl refl some few in
+    rw (is_home_same entry.0 of same) (omega (arith, both, wrapped_repays of (entry.1 +ℤ rest)))
 once_by entry of rest own false other some few = few
 
 no_repay : (of : Home) → repays of (pos 0) ≤ 7

@@ -149,11 +149,15 @@ back top left right at =
     if is_in_reach top at then record { lines = BranchLine Bne left right top ∷ []; steps = 1 }
     else record { lines = BranchLine Bne left right (at + 2) ∷ Jal 0 (at + 3) ∷ Jal 0 top ∷ []; steps = 2 }
 
+-- the end of a turn whose first line is `top`
+abbrev pub closing_of : Plan → ℕ → ℕ → ℕ → ℕ → Piece
+closing_of plan counter turns top at =
+    behind at (straight (count_lines plan counter turns))
+    (back top (register_of 30 (home_at plan (Register counter))) (last_count plan counter))
+
 -- a turn from this line on, whose body is this piece
 abbrev pub turn_of : Plan → ℕ → ℕ → (ℕ → Piece) → ℕ → Piece
-turn_of plan counter turns body top =
-    behind top (body top) (λ next. behind next (straight (count_lines plan counter turns))
-    (back top (register_of 30 (home_at plan (Register counter))) (last_count plan counter)))
+turn_of plan counter turns body top = behind top (body top) (closing_of plan counter turns top)
 
 -- a loop of no turns has no lines for its turns
 abbrev pub turns_of : ℕ → (ℕ → Piece) → ℕ → Piece

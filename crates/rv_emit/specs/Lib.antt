@@ -9,5 +9,5 @@ pub mod Pricing
 pub mod Programs
 pub mod Showing
 pub mod Simulating
-pub mod TestNests
+pub mod SpillExamples
 pub mod Walks

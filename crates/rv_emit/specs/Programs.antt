@@ -1,5 +1,5 @@
 -- Programs of nests: what they are made of, and lines that come behind others. This project's own.
-use Rattle.std.specs.Prelude.{◌≡◌, ℕ, ◌==◌, ◌||◌, max, Bool, List, [], ◌∷◌, ◌++◌, length, map, IsSome}
+use Rattle.std.specs.Prelude.{◌≡◌, ◌<◌, ◌+◌, ◌^◌, ℕ, ◌==◌, ◌||◌, max, Bool, List, [], ◌∷◌, ◌++◌, length, map, IsSome, Some, true}
 use Rattle.std.specs.BTreeMap.{is_at}
 use Rattle.std.specs.List.{list_any, zip}
 use Rattle.std.specs.Ordering.{nat_cmp}
@@ -10,7 +10,8 @@ use Rattle.loop_ir.specs.Pool.{tree, tree_at, trees_from}
 use Rattle.loop_ir.specs.Needed.{reads}
 use Rattle.loop_ir.specs.Running.{Key, Pointer, Register}
 use Rattle.loop_ir.specs.Steps.{Action, Set, Copy, One, Two, Place, Spot, Walk, Read, Write, Steps, End, Then, For, If}
-use Rattle.register_map.specs.Homes.{Given, home_of}
+use Rattle.register_map.specs.declared.home.Home.TheVariants as home
+use Rattle.register_map.specs.Homes.{Given, home_of, is_given}
 use Rattle.rv_line.specs.declared.line.Line.{Line}
 use Rattle.rv_emit.specs.Emitting.{Piece, Plan, action_lines, plan_of}
 use Rattle.rv_emit.specs.Walks.{Owed}
@@ -41,6 +42,10 @@ list_tree site number = tree_at (trees_from 0 site.lists) number
 abbrev pub HaveHomes : Given → Steps → Type 0
 HaveHomes homes steps = EachNamed (λ key. IsSome (home_of homes key)) steps
 
+-- the machine registers of homes are those that are given
+abbrev pub HasRegisters : Given → Type 0
+HasRegisters homes = (key : Key) (number : ℕ) → home_of homes key ≡ Some (home.Register number) → is_given number ≡ true
+
 -- the lines of an action come behind others, where this is owed
 abbrev pub Pushes : Plan → Action → Owed → List Line → List Line → Type 0
 Pushes plan action owed before after = after ≡ before ++ action_lines plan (length before) owed action
@@ -62,6 +67,11 @@ step_lines plan at owed _ = []
 abbrev pub Emits : (ℕ → Piece) → List Line → List Line → ℕ → Type 0
 Emits piece before after steps =
     (after ≡ before ++ (piece (length before)).lines) × (steps ≡ (piece (length before)).steps)
+
+-- a piece may come behind lines: 32 bits number them then, and 64 bits count its steps
+abbrev pub MayCome : (ℕ → Piece) → List Line → Type 0
+MayCome piece before =
+    (length before + length (piece (length before)).lines < 2 ^ 32) × ((piece (length before)).steps < 2 ^ 64)
 
 -- ---- the registers that steps read
 

@@ -78,11 +78,18 @@ pub record Simulates (lines : List Line) (plan : Plan) (base at : ℕ) (piece : 
 
 -- ---- nests one after another
 
--- a nest that needs nothing at its start, with homes that fit it and lie within so many spill words
-pub record IsReady (spill : ℕ) (nest : Steps × Given) : Type 0 where
+-- a nest with homes that fit it and lie within so many spill words
+pub record IsHomed (spill : ℕ) (nest : Steps × Given) : Type 0 where
   pub given : IsGiven nest.1
   pub within : nest.1.spill ≤ spill
   pub fit : IsFit nest.0 nest.1
+
+abbrev pub AreHomed : ℕ → List (Steps × Given) → Type 0
+AreHomed spill nests = AllByRecursion (IsHomed spill) nests
+
+-- one that besides needs nothing at its start and sets and compares what fits 64 bits
+pub record IsReady (spill : ℕ) (nest : Steps × Given) : Type 0 where
+  pub homed : IsHomed spill nest
   pub counters : KeepsCounters nest.0
   pub sets : SetsFit nest.0
   pub tests : TestsFit nest.0

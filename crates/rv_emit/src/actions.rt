@@ -1,9 +1,9 @@
 // The lines of the steps that do no list, and what is owed behind them.
-ghost use Rattle.std.specs.Prelude.{◌≡◌, IsSome, OnOk};
+ghost use Rattle.std.specs.Prelude.{◌≡◌, ◌<◌, ◌+◌, ◌^◌, IsSome, OnOk, length};
 ghost use Rattle.loop_ir.specs.Running.{Pointer, Register};
 ghost use Rattle.loop_ir.specs.Steps.{Copy, One, Place, Read, Set, Spot, Two, Walk, Write};
 ghost use Rattle.register_map.specs.Homes.{home_of};
-ghost use Rattle.rv_emit.specs.Emitting.{owed_by};
+ghost use Rattle.rv_emit.specs.Emitting.{action_lines, owed_by};
 ghost use Rattle.rv_emit.specs.Programs.{Pushes, plan_at};
 
 use crate::handling::{
@@ -89,6 +89,8 @@ pub(crate) fn two(
     requires to { IsSome (home_of site.now.homes (Register to)) }
     requires left { IsSome (home_of site.now.homes (Register left)) }
     requires right { IsSome (home_of site.now.homes (Register right)) }
+    requires room { length lines.old.items + length (action_lines (plan_at site.now)
+        (length lines.old.items) owed.old.items (Two op to left right)) < 2 ^ 32 }
     ensures lines { OnOk result (Pushes (plan_at site.now) (Two op to left right)
         owed.old.items lines.old.items lines.new.items) }
     ensures owed { OnOk result (owed.new.items

@@ -1,5 +1,5 @@
 // Lines that compute the operators: from registers to a register.
-ghost use Rattle.std.specs.Prelude.{◌≡◌, ◌+◌, ◌++◌, ◌∷◌, [], IfOk, OnOk, length};
+ghost use Rattle.std.specs.Prelude.{◌≡◌, ◌<◌, ◌+◌, ◌^◌, ◌++◌, ◌∷◌, [], OnOk, length};
 ghost use Rattle.rv_emit.specs.Computing.{choice_of, copy_lines, greater_lines, one_lines};
 ghost use Rattle.rv_emit.specs.Computing.{smaller_lines, two_lines};
 ghost use Rattle.rv_line.specs.declared.line.Branch.{Branch};
@@ -14,16 +14,11 @@ use shapes_core::NoMemory;
 pub(crate) const ZERO: u8 = 0;
 
 /// The number of a line so far behind those that are there.
-///
-/// # Errors
-/// `NoMemory` where it leaves 32 bits.
-pub(crate) fn line_ahead(lines: &[Line], more: u32) -> Result<u32, NoMemory>
-    ensures { IfOk result (λ number. number ≡ length lines.now + more) }
+pub(crate) fn line_ahead(lines: &[Line], more: u32) -> u32
+    requires { length lines.now + more < 2 ^ 32 }
+    ensures { result ≡ length lines.now + more }
 {
-    let Ok(next) = u32::try_from(lines.len()) else {
-        return Err(NoMemory);
-    };
-    next.checked_add(more).ok_or(NoMemory)
+    lines.len() as u32 + more
 }
 
 pub(crate) fn push_branch(
@@ -71,26 +66,30 @@ fn push_copy(lines: &mut Vec<Line>, to: u8, from: u8) -> Result<(), NoMemory>
 
 /// A register is kept where it is at least another one, and takes that one's number else.
 fn push_greater(lines: &mut Vec<Line>, to: u8, other: u8) -> Result<(), NoMemory>
+    requires { length lines.old.items + 2 < 2 ^ 32 }
     ensures { OnOk result (lines.new.items ≡ lines.old.items
         ++ greater_lines (length lines.old.items) to other) }
 {
-    let target = line_ahead(lines, 2)?;
+    let target = line_ahead(lines, 2);
     push_branch(lines, Branch::Bge, to, other, target)?;
     push_imm(lines, Imm::Addi, to, other, 0)
 }
 
 /// It is kept where the other one is at least it.
 fn push_smaller(lines: &mut Vec<Line>, to: u8, other: u8) -> Result<(), NoMemory>
+    requires { length lines.old.items + 2 < 2 ^ 32 }
     ensures { OnOk result (lines.new.items ≡ lines.old.items
         ++ smaller_lines (length lines.old.items) to other) }
 {
-    let target = line_ahead(lines, 2)?;
+    let target = line_ahead(lines, 2);
     push_branch(lines, Branch::Bge, other, to, target)?;
     push_imm(lines, Imm::Addi, to, other, 0)
 }
 
 /// The smaller one of two.
 fn push_min(lines: &mut Vec<Line>, to: u8, left: u8, right: u8) -> Result<(), NoMemory>
+    requires { length lines.old.items
+        + length (choice_of smaller_lines (length lines.old.items) to left right) < 2 ^ 32 }
     ensures { OnOk result (lines.new.items ≡ lines.old.items
         ++ choice_of smaller_lines (length lines.old.items) to left right) }
 {
@@ -103,6 +102,8 @@ fn push_min(lines: &mut Vec<Line>, to: u8, left: u8, right: u8) -> Result<(), No
 
 /// The greater one of two.
 fn push_max(lines: &mut Vec<Line>, to: u8, left: u8, right: u8) -> Result<(), NoMemory>
+    requires { length lines.old.items
+        + length (choice_of greater_lines (length lines.old.items) to left right) < 2 ^ 32 }
     ensures { OnOk result (lines.new.items ≡ lines.old.items
         ++ choice_of greater_lines (length lines.old.items) to left right) }
 {
@@ -121,6 +122,8 @@ pub(crate) fn push_two(
     left: u8,
     right: u8,
 ) -> Result<(), NoMemory>
+    requires { length lines.old.items
+        + length (two_lines (length lines.old.items) op to left right) < 2 ^ 32 }
     ensures { OnOk result (lines.new.items ≡ lines.old.items
         ++ two_lines (length lines.old.items) op to left right) }
 {

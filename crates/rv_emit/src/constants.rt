@@ -80,7 +80,7 @@ fn short(to: u8, value: i64) -> Few
     ensures lines { result ≡ short_lines to value }
     ensures few { length result ≤ 2 }
 {
-    let mut lines = Few::new();
+    let mut lines = Few::none();
     if is_short(value) {
         lines.push(line(Imm::Addi, to, 0, value as i32));
         return lines;

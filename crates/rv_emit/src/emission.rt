@@ -3,16 +3,16 @@ ghost use Rattle.std.specs.Prelude.{◌≡◌, ◌<◌, ◌≤◌, ◌^◌, [], 
 ghost use Rattle.std.specs.List.{AllByRecursion};
 ghost use Rattle.shapes_core.specs.Limits.{most_items};
 ghost use Rattle.loop_ir.specs.Pool.{tree};
+ghost use Rattle.register_map.specs.Fits.{IsFit};
+ghost use Rattle.register_map.specs.Homes.{IsGiven};
 ghost use Rattle.rv_emit.specs.Emitting.{emitted, plan_of, program};
 ghost use Rattle.rv_emit.specs.Pricing.{total_cost, total_time};
-ghost use Rattle.rv_emit.specs.Programs.{Emits, HaveHomes, most_spill, pairs};
-ghost use Rattle.rv_emit.specs.Simulating.{AreReady};
+ghost use Rattle.rv_emit.specs.Programs.{Emits, MayCome, most_spill, pairs};
 ghost use Rattle.rv_line.specs.Fits.{AreAreas, IsArea};
 
 use crate::computing::ZERO;
 use crate::counters::registers_read;
 use crate::form_laws::lines_fit;
-use crate::pieces::add;
 use crate::site::Emission;
 use crate::size_laws::programs_cost;
 use crate::steps::emit_list;
@@ -40,7 +40,7 @@ pub fn emit(
     layout: &Layout,
 ) -> Result<Assembly, NoMemory>
     requires counted { length nests.now ≡ length homes.now }
-    requires ready { AreReady (most_spill homes.now) (pairs nests.now homes.now) }
+    requires fit { AllByRecursion (λ nest. IsFit nest.0 nest.1) (pairs nests.now homes.now) }
     requires lines { total_cost (pairs nests.now homes.now) ≤ 245760 }
     requires spill { most_spill homes.now ≤ 8192 }
     requires steps { total_time (pairs nests.now homes.now) ≤ 2 ^ 50 }
@@ -67,7 +67,8 @@ pub fn emit(
 
 /// The most spill words of some homes.
 fn most_spill(homes: &[Homes]) -> u32
-    ensures { result ≡ most_spill homes.now }
+    ensures most { result ≡ most_spill homes.now }
+    ensures given { AllByRecursion IsGiven homes.now }
 {
     let mut most = 0u32;
     for given in homes {
@@ -85,21 +86,22 @@ fn emit_nests(
     spill: u32,
 ) -> Result<u64, NoMemory>
     requires counted { length nests.now ≡ length homes.now }
-    requires homes { AllByRecursion (λ nest. HaveHomes nest.1 nest.0) (pairs nests.now homes.now) }
+    requires fit { AllByRecursion (λ nest. IsFit nest.0 nest.1) (pairs nests.now homes.now) }
+    requires room { MayCome (program spill (pairs nests.now homes.now)) lines.old.items }
     ensures { IfOk result (Emits (program spill (pairs nests.now homes.now))
         lines.old.items lines.new.items) }
 {
     let mut steps = 0u64;
     for place in 0..nests.len() {
         let more = emit_nest(alloc, lines, &nests[place], &homes[place], spill)?;
-        steps = add(steps, more)?;
+        steps += more;
     }
     lines.push(Line::Jalr {
         to: ZERO,
         imm: 0,
         base: RETURN,
     })?;
-    add(steps, 1)
+    Ok(steps + 1)
 }
 
 /// The lines of a nest.
@@ -110,7 +112,9 @@ fn emit_nest(
     homes: &Homes,
     spill: u32,
 ) -> Result<u64, NoMemory>
-    requires { HaveHomes homes.now (tree nest.now) }
+    requires fit { IsFit (tree nest.now) homes.now }
+    requires room { MayCome (emitted (plan_of spill (tree nest.now, homes.now)) []
+        (tree nest.now)) lines.old.items }
     ensures { IfOk result (Emits (emitted (plan_of spill (tree nest.now, homes.now)) []
         (tree nest.now)) lines.old.items lines.new.items) }
 {

@@ -9,13 +9,15 @@ ghost use Rattle.register_map.specs.declared.home.Home.TheVariants as home;
 ghost use Rattle.rv_emit.specs.Counting.{counts_down};
 ghost use Rattle.rv_emit.specs.EmitExamples.{spilled_homes, sum_homes, sum_nests};
 ghost use Rattle.rv_emit.specs.Emitting.{Plan, action_lines, emitted, owed_by, plan_of, program};
+ghost use Rattle.rv_emit.specs.Pricing.{is_base_op};
+ghost use Rattle.rv_emit.specs.Simulating.{is_steady_op};
 ghost use Rattle.rv_line.specs.declared.line.Branch.{Branch};
 ghost use Rattle.rv_line.specs.declared.line.Imm.{Imm};
 ghost use Rattle.rv_line.specs.declared.line.Line.{Line};
 ghost use Rattle.rv_line.specs.declared.line.Load.{Load};
 ghost use Rattle.rv_line.specs.declared.line.Store.{Store};
 ghost use Rattle.rv_line.specs.declared.line.Three.{Three};
-ghost use Rattle.std.specs.Prelude.{[], length, negsuc, pos, true, ◌*◌, ◌+◌, ◌++◌, ◌∷◌, ◌≡◌};
+ghost use Rattle.std.specs.Prelude.{[], false, length, negsuc, pos, true, ◌*◌, ◌+◌, ◌++◌, ◌∷◌, ◌≡◌};
 
 /// The loop of the sum of two vectors of three elements: nine lines a turn, and its counter counts
 /// down.
@@ -42,6 +44,22 @@ pub fn counters_count()
     ensures no_turn { (emitted (plan_of 0 (For 0 0 (Then (Copy 1 0) End) End, sum_homes)) []
         (For 0 0 (Then (Copy 1 0) End) End) 4).lines
         ≡ Line.Imm Imm.Addi 5 0 (pos 0) ∷ [] }
+{}
+
+/// Products, quotients and remainders are of the M extension; and the minimum and the maximum take
+/// more steps of some numbers than of others.
+pub fn operators_are_told_apart()
+    ensures product { is_base_op op.Mul ≡ false }
+    ensures quotient { is_base_op op.Quot ≡ false }
+    ensures remainder { is_base_op op.Rem ≡ false }
+    ensures sum { is_base_op op.Add ≡ true }
+    ensures difference { is_base_op op.Sub ≡ true }
+    ensures least_is_base { is_base_op op.Min ≡ true }
+    ensures least { is_steady_op op.Min ≡ false }
+    ensures greatest { is_steady_op op.Max ≡ false }
+    ensures less { is_steady_op op.Lt ≡ true }
+    ensures at_most { is_steady_op op.Le ≡ true }
+    ensures product_is_steady { is_steady_op op.Mul ≡ true }
 {}
 
 /// A walk is made where the number is wanted: as an offset, or else as a step of its own; and a

@@ -31,8 +31,20 @@ impl Model for Few {
 }
 
 impl Few {
+    /// These lines. It takes no memory.
+    pub fn new(lines: &[Line]) -> Few
+        requires { length lines.now ≤ 8 }
+        ensures { result ≡ lines.now }
+    {
+        let mut few = Few::none();
+        for line in lines {
+            few.push(*line);
+        }
+        few
+    }
+
     /// No line.
-    pub(crate) fn new() -> Few
+    pub(crate) fn none() -> Few
         ensures { result ≡ [] }
     {
         Few {

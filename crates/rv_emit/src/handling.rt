@@ -1,5 +1,5 @@
 // The lines of a step, by the homes of what it names.
-ghost use Rattle.std.specs.Prelude.{◌≡◌, ◌<◌, ◌++◌, ◌∷◌, [], ◌+ℤ◌, IfOk, OnOk, length, pos};
+ghost use Rattle.std.specs.Prelude.{◌≡◌, ◌<◌, ◌+◌, ◌^◌, ◌++◌, ◌∷◌, [], ◌+ℤ◌, IfOk, OnOk, length, pos};
 ghost use Rattle.rv_emit.specs.Computing.{one_lines, two_lines};
 ghost use Rattle.rv_emit.specs.Emitting.{near_lines, near_owed, offset, with_one, with_two};
 ghost use Rattle.rv_emit.specs.Moving.{fetch_lines, put_lines, register_of};
@@ -81,6 +81,8 @@ pub(crate) fn push_binary(
     left: Home,
     right: Home,
 ) -> Result<(), NoMemory>
+    requires { length lines.old.items + length (with_two (length lines.old.items) to left right
+        (λ at. two_lines at op)) < 2 ^ 32 }
     ensures { OnOk result (lines.new.items ≡ lines.old.items
         ++ with_two (length lines.old.items) to left right (λ at. two_lines at op)) }
 {
@@ -153,7 +155,7 @@ pub(crate) fn push_near(
     ensures owed { OnOk result (owed.new.items ≡ near_owed owed.old.items home) }
     ensures offset { IfOk result (λ imm. imm ≡ offset owed.old.items home) }
 {
-    let words = owed_at(owed, home)?;
+    let words = owed_at(owed, home);
     let count = bytes(words);
     if is_short(count) {
         return Ok(count as i32);

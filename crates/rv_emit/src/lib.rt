@@ -1,6 +1,7 @@
 // The lines of the machine to which nests are brought, and the laws of what they do.
 #![tactic(auto)]
 
+pub mod access_examples;
 mod action_laws;
 mod actions;
 mod computing;
@@ -20,10 +21,9 @@ mod owed;
 mod pieces;
 mod site;
 pub mod size_laws;
+pub mod spilling_examples;
 pub mod step_laws;
 mod steps;
-#[cfg(test)]
-mod tests;
 
 pub use constants::constant;
 pub use emission::emit;

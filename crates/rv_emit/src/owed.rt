@@ -1,5 +1,5 @@
 // Walks that are not made yet: the words by which the number in a home is behind that of its place.
-ghost use Rattle.std.specs.Prelude.{◌≡◌, ◌+ℤ◌, IfOk, OnOk};
+ghost use Rattle.std.specs.Prelude.{◌≡◌, ◌+ℤ◌, OnOk, if◌then◌else◌};
 ghost use Rattle.std.specs.Int.{int_wrap, w64};
 ghost use Rattle.rv_emit.specs.Walks.{is_home, owed_at, with_walk, without};
 
@@ -25,19 +25,25 @@ fn is_home(one: Home, other: Home) -> bool
 }
 
 /// The words that a home owes: the sum where it stands more than once.
-///
-/// # Errors
-/// `NoMemory` where the sum leaves 64 bits.
-pub(crate) fn owed_at(owed: &[Debt], home: Home) -> Result<i64, NoMemory>
-    ensures { IfOk result (λ words. words ≡ owed_at owed.now home) }
+pub(crate) fn owed_at(owed: &[Debt], home: Home) -> i64
+    ensures { result ≡ owed_at owed.now home }
 {
     let mut words = 0i64;
     for debt in owed {
-        if is_home(debt.0, home) {
-            words = words.checked_add(debt.1).ok_or(NoMemory)?;
-        }
+        words = with_debt(words, *debt, home);
     }
-    Ok(words)
+    words
+}
+
+/// Words that a home owes, and those of one debt more where that is its own.
+fn with_debt(words: i64, debt: Debt, home: Home) -> i64
+    ensures { result ≡ if is_home debt.0 home then int_wrap w64 (words +ℤ debt.1) else words }
+{
+    if is_home(debt.0, home) {
+        sum(words, debt.1)
+    } else {
+        words
+    }
 }
 
 /// A home that is set owes nothing.

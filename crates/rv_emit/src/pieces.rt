@@ -1,12 +1,12 @@
 // Pieces that hold no list: lines, and the steps that a run through them makes.
-ghost use Rattle.std.specs.Prelude.{◌≡◌, ◌+◌, ◌*◌, ◌<◌, ◌++◌, ◌∷◌, [], if◌then◌else◌};
+ghost use Rattle.std.specs.Prelude.{◌≡◌, ◌+◌, ◌^◌, ◌<◌, ◌++◌, ◌∷◌, [], if◌then◌else◌};
 ghost use Rattle.std.specs.Prelude.{IfOk, IsSome, List, OnOk, length, negsuc, pos};
 ghost use Rattle.loop_ir.specs.Running.{Register};
 ghost use Rattle.register_map.specs.Homes.{home_of};
-ghost use Rattle.rv_emit.specs.Emitting.{back, behind, count_lines, home_at, last_count};
+ghost use Rattle.rv_emit.specs.Emitting.{back, closing_of, count_lines};
 ghost use Rattle.rv_emit.specs.Emitting.{start_lines, straight, test_lines};
 ghost use Rattle.rv_emit.specs.Moving.{fetch_lines, put_lines, register_of, settle_lines};
-ghost use Rattle.rv_emit.specs.Programs.{Emits, plan_at};
+ghost use Rattle.rv_emit.specs.Programs.{Emits, MayCome, plan_at};
 ghost use Rattle.rv_line.specs.declared.line.Branch.{Branch};
 ghost use Rattle.rv_line.specs.declared.line.Imm.{Imm};
 ghost use Rattle.rv_line.specs.declared.line.Line.{Line};
@@ -26,26 +26,6 @@ use shapes_core::NoMemory;
 
 /// The most lines that a branch goes back.
 const REACH: u32 = 1024;
-
-/// Steps behind others.
-///
-/// # Errors
-/// `NoMemory` where their number leaves 64 bits.
-pub(crate) fn add(steps: u64, more: u64) -> Result<u64, NoMemory>
-    ensures { IfOk result (λ sum. sum ≡ steps + more) }
-{
-    steps.checked_add(more).ok_or(NoMemory)
-}
-
-/// Steps that are made so often.
-///
-/// # Errors
-/// `NoMemory` where their number leaves 64 bits.
-pub(crate) fn times(turns: u64, steps: u64) -> Result<u64, NoMemory>
-    ensures { IfOk result (λ product. product ≡ turns * steps) }
-{
-    turns.checked_mul(steps).ok_or(NoMemory)
-}
 
 /// The steps of the lines behind the first ones, so many: one for each.
 pub(crate) fn steps_behind(lines: &[Line], before: usize) -> u64
@@ -76,16 +56,11 @@ pub(crate) fn settle(lines: &mut Vec<Line>, owed: &mut Vec<Debt>) -> Result<u64,
 }
 
 /// The number as a signed one.
-///
-/// # Errors
-/// `NoMemory` where it is none of 64 bits.
-fn signed(turns: u64) -> Result<i64, NoMemory>
-    ensures { IfOk result (λ number. number ≡ pos turns) }
+fn signed(turns: u64) -> i64
+    requires { turns < 2 ^ 63 }
+    ensures { result ≡ pos turns }
 {
-    let Ok(number) = i64::try_from(turns) else {
-        return Err(NoMemory);
-    };
-    Ok(number)
+    turns as i64
 }
 
 /// The number from which a counter counts.
@@ -103,7 +78,8 @@ pub(crate) fn emit_start(
     counter: u32,
     turns: u64,
 ) -> Result<u64, NoMemory>
-    requires { IsSome (home_of site.now.homes (Register counter)) }
+    requires home { IsSome (home_of site.now.homes (Register counter)) }
+    requires turns { turns < 2 ^ 63 }
     ensures emits { IfOk result (Emits (λ at. straight (start_lines (plan_at site.now)
         owed.old.items counter turns)) lines.old.items lines.new.items) }
     ensures none { OnOk result (owed.new.items ≡ []) }
@@ -111,7 +87,7 @@ pub(crate) fn emit_start(
     let before = lines.len();
     push_settle(lines, owed)?;
     owed.clear();
-    let first = first_count(site.counts_down(counter), signed(turns)?);
+    let first = first_count(site.counts_down(counter), signed(turns));
     push_set(lines, site.register(counter), first)?;
     Ok(steps_behind(lines, before))
 }
@@ -155,7 +131,8 @@ fn emit_count(
     counter: u32,
     turns: u64,
 ) -> Result<u64, NoMemory>
-    requires { IsSome (home_of site.now.homes (Register counter)) }
+    requires home { IsSome (home_of site.now.homes (Register counter)) }
+    requires turns { turns < 2 ^ 63 }
     ensures { IfOk result (Emits (λ at. straight (count_lines
         (plan_at site.now) counter turns)) lines.old.items lines.new.items) }
 {
@@ -164,7 +141,7 @@ fn emit_count(
         lines,
         site.register(counter),
         site.counts_down(counter),
-        signed(turns)?,
+        signed(turns),
     )?;
     Ok(steps_behind(lines, before))
 }
@@ -179,9 +156,10 @@ fn last_count(down: bool) -> u8
 /// Back to a line where two registers differ: by a branch that reaches it, and else by a branch
 /// over a jump and a jump.
 fn push_back(lines: &mut Vec<Line>, top: u32, left: u8, right: u8) -> Result<u64, NoMemory>
+    requires { MayCome (back top left right) lines.old.items }
     ensures { IfOk result (Emits (back top left right) lines.old.items lines.new.items) }
 {
-    let at = line_ahead(lines, 0)?;
+    let at = line_ahead(lines, 0);
     if at.saturating_sub(top) <= REACH {
         push_branch(lines, Branch::Bne, left, right, top)?;
         return Ok(1);
@@ -192,12 +170,13 @@ fn push_back(lines: &mut Vec<Line>, top: u32, left: u8, right: u8) -> Result<u64
 
 /// Back to a line that no branch reaches.
 fn push_far(lines: &mut Vec<Line>, top: u32, left: u8, right: u8) -> Result<(), NoMemory>
+    requires { length lines.old.items + 3 < 2 ^ 32 }
     ensures { OnOk result (lines.new.items ≡ lines.old.items
         ++ Line.Branch Branch.Bne left right (length lines.old.items + 2)
         ∷ Line.Jal 0 (length lines.old.items + 3) ∷ Line.Jal 0 top ∷ []) }
 {
-    let over = line_ahead(lines, 2)?;
-    let end = line_ahead(lines, 3)?;
+    let over = line_ahead(lines, 2);
+    let end = line_ahead(lines, 3);
     push_branch(lines, Branch::Bne, left, right, over)?;
     push_jump(lines, end)?;
     push_jump(lines, top)
@@ -211,16 +190,16 @@ pub(crate) fn emit_closing(
     turns: u64,
     top: u32,
 ) -> Result<u64, NoMemory>
-    requires { IsSome (home_of site.now.homes (Register counter)) }
-    ensures { IfOk result (Emits (λ next. behind next
-        (straight (count_lines (plan_at site.now) counter turns))
-        (back top (register_of 30 (home_at (plan_at site.now) (Register counter)))
-        (last_count (plan_at site.now) counter))) lines.old.items lines.new.items) }
+    requires home { IsSome (home_of site.now.homes (Register counter)) }
+    requires turns { turns < 2 ^ 63 }
+    requires room { MayCome (closing_of (plan_at site.now) counter turns top) lines.old.items }
+    ensures { IfOk result (Emits (closing_of (plan_at site.now) counter turns top)
+        lines.old.items lines.new.items) }
 {
     let steps = emit_count(site, lines, counter, turns)?;
     let register = register_of(RESULT, site.register(counter));
     let more = push_back(lines, top, register, last_count(site.counts_down(counter)))?;
-    add(steps, more)
+    Ok(steps + more)
 }
 
 /// Settles, and makes ready the test of a choice.

@@ -7,7 +7,7 @@ ghost use Rattle.register_map.specs.Homes.{home_of};
 ghost use Rattle.rv_emit.specs.Counting.{reads_of};
 ghost use Rattle.rv_emit.specs.Emitting.{home_at};
 ghost use Rattle.rv_emit.specs.Moving.{register_of};
-ghost use Rattle.rv_emit.specs.Programs.{holds, plan_at};
+ghost use Rattle.rv_emit.specs.Programs.{HasRegisters, holds, plan_at};
 
 use loop_ir::{Nest, Step};
 use register_map::{Home, Homes};
@@ -29,14 +29,15 @@ impl<'a> Model for Emission<'a> {
     ghost use Rattle.loop_ir.specs.Pool.{tree};
     ghost use Rattle.loop_ir.specs.Running.{Register};
     ghost use Rattle.rv_emit.specs.Counting.{reads_of};
-    ghost use Rattle.rv_emit.specs.Programs.{Site, holds};
+    ghost use Rattle.rv_emit.specs.Programs.{HasRegisters, Site, holds};
 
     ghost Value = { Site };
 
     ghost view = { λ e. record { spill = e.spill; lists = e.nest.now; homes = e.homes.now } };
 
-    ghost invariant = { λ e. (number : ℕ)
-        → holds e.reads.keys number ≡ reads_of (tree e.nest.now) (Register number) };
+    ghost invariant = { λ e. ((number : ℕ)
+        → holds e.reads.keys number ≡ reads_of (tree e.nest.now) (Register number))
+        × HasRegisters e.homes.now };
 }
 
 impl<'a> Emission<'a> {
@@ -46,7 +47,8 @@ impl<'a> Emission<'a> {
         homes: &'a Homes,
         reads: BTreeSet<u32>,
     ) -> Emission<'a>
-        requires { (number : ℕ)
+        requires registers { HasRegisters homes.now }
+        requires reads { (number : ℕ)
             → holds reads.keys number ≡ reads_of (tree nest.now) (Register number) }
         ensures { result ≡ record { spill = spill; lists = nest.now; homes = homes.now } }
     {
@@ -83,7 +85,6 @@ impl<'a> Emission<'a> {
         ensures below { register_of 30 result < 32 }
     {
         let homes = self.homes;
-        let _spill = homes.spill();
         homes.register(number)
     }
 
@@ -95,7 +96,6 @@ impl<'a> Emission<'a> {
         ensures below { register_of 30 result < 32 }
     {
         let homes = self.homes;
-        let _spill = homes.spill();
         homes.place(number)
     }
 

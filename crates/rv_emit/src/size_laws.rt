@@ -7,7 +7,7 @@ ghost use Rattle.rv_emit.specs.Moving.{settle_lines};
 ghost use Rattle.rv_emit.specs.Pricing.{prices_of, total_cost, total_time};
 ghost use Rattle.rv_emit.specs.Programs.{HaveHomes};
 ghost use Rattle.rv_emit.specs.Showing.{HomesLie};
-ghost use Rattle.rv_emit.specs.Simulating.{AreReady};
+ghost use Rattle.rv_emit.specs.Simulating.{AreHomed};
 ghost use Rattle.rv_emit.specs.Walks.{Owed};
 ghost use Rattle.std.specs.Prelude.{List, length, ℕ, ◌+◌, ◌≤◌};
 
@@ -28,8 +28,8 @@ pub fn steps_cost()
 /// A program has at most as many lines as its nests cost, and makes at most as many steps as they
 /// take time.
 pub fn programs_cost()
-    ensures lines { (nests : List (Steps × Given)) (spill : ℕ) → AreReady spill nests → spill ≤ 8192
+    ensures lines { (nests : List (Steps × Given)) (spill : ℕ) → AreHomed spill nests → spill ≤ 8192
         → length (program spill nests 0).lines ≤ total_cost nests }
-    ensures steps { (nests : List (Steps × Given)) (spill : ℕ) → AreReady spill nests → spill ≤ 8192
+    ensures steps { (nests : List (Steps × Given)) (spill : ℕ) → AreHomed spill nests → spill ≤ 8192
         → (program spill nests 0).steps ≤ total_time nests }
 {}

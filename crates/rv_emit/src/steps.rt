@@ -1,22 +1,21 @@
 // The lines of lists of steps, and of the loops and choices in them.
-ghost use Rattle.std.specs.Prelude.{◌≡◌, ◌+◌, ◌<◌, ◌++◌, ◌∷◌, [], IfOk, IsSome, List, OnOk, length};
+ghost use Rattle.std.specs.Prelude.{◌≡◌, ◌+◌, ◌^◌, ◌<◌, ◌++◌, ◌∷◌, [], IfOk, IsSome, List, OnOk, length};
 ghost use Rattle.std.specs.List.{AllByRecursion};
+ghost use Rattle.loop_ir.specs.Kept.{KeepsCounters};
 ghost use Rattle.loop_ir.specs.Pool.{inner_lists, steps_of};
 ghost use Rattle.loop_ir.specs.Running.{Register};
 ghost use Rattle.loop_ir.specs.Steps.{End};
 ghost use Rattle.register_map.specs.Homes.{home_of};
 ghost use Rattle.rv_emit.specs.Emitting.{choice_of, emitted, lists_of, loop_of, owed_after};
 ghost use Rattle.rv_emit.specs.Emitting.{settled, turn_of, turns_of};
-ghost use Rattle.rv_emit.specs.Programs.{Emits, HaveHomes, list_tree, plan_at, step_lines};
+ghost use Rattle.rv_emit.specs.Programs.{Emits, HaveHomes, MayCome, list_tree, plan_at, step_lines};
 ghost use Rattle.rv_line.specs.declared.line.Line.{Line};
 
 use crate::actions::{copy, go, one, place, read, set, spot, two, write};
 use crate::computing::{ZERO, line_ahead, push_branch};
 use crate::moving::{FIRST, SECOND, register_of};
 use crate::owed::Debt;
-use crate::pieces::{
-    add, emit_closing, emit_start, emit_test, push_jump, settle, steps_behind, times,
-};
+use crate::pieces::{emit_closing, emit_start, emit_test, push_jump, settle, steps_behind};
 use crate::site::Emission;
 use loop_ir::Step;
 use loop_ir::laws::lists_in_order;
@@ -33,6 +32,9 @@ pub(crate) fn emit_list(
 ) -> Result<u64, NoMemory>
     requires within { number < length site.now.lists }
     requires homes { HaveHomes site.now.homes (list_tree site.now number) }
+    requires counters { KeepsCounters (list_tree site.now number) }
+    requires room { MayCome (emitted (plan_at site.now) owed.old.items (list_tree site.now number))
+        lines.old.items }
     ensures emits { IfOk result (Emits (emitted (plan_at site.now)
         owed.old.items (list_tree site.now number)) lines.old.items lines.new.items) }
     ensures owed { OnOk result (owed.new.items ≡ owed_after (plan_at site.now)
@@ -42,7 +44,7 @@ pub(crate) fn emit_list(
     let mut steps = 0u64;
     for step in site.list(number) {
         let more = emit_step(site, lines, owed, *step)?;
-        steps = add(steps, more)?;
+        steps += more;
     }
     Ok(steps)
 }
@@ -57,6 +59,9 @@ fn emit_step(
 ) -> Result<u64, NoMemory>
     requires within { AllByRecursion (λ inner. inner < length site.now.lists) (inner_lists step) }
     requires homes { HaveHomes site.now.homes (steps_of (list_tree site.now) (step ∷ [])) }
+    requires counters { KeepsCounters (steps_of (list_tree site.now) (step ∷ [])) }
+    requires room { MayCome (emitted (plan_at site.now) owed.old.items
+        (steps_of (list_tree site.now) (step ∷ []))) lines.old.items }
     ensures emits { IfOk result (Emits (emitted (plan_at site.now) owed.old.items
         (steps_of (list_tree site.now) (step ∷ []))) lines.old.items lines.new.items) }
     ensures owed { OnOk result (owed.new.items ≡ owed_after (plan_at site.now)
@@ -87,6 +92,8 @@ fn emit_action(
 ) -> Result<u64, NoMemory>
     requires plain { inner_lists step ≡ [] }
     requires homes { HaveHomes site.now.homes (steps_of (λ inner. End) (step ∷ [])) }
+    requires room { MayCome (emitted (plan_at site.now) owed.old.items
+        (steps_of (λ inner. End) (step ∷ []))) lines.old.items }
     ensures emits { IfOk result (Emits (emitted (plan_at site.now)
         owed.old.items (steps_of (λ inner. End) (step ∷ []))) lines.old.items lines.new.items) }
     ensures owed { OnOk result (owed.new.items ≡ owed_after (plan_at site.now)
@@ -106,6 +113,8 @@ fn push_action(
 ) -> Result<(), NoMemory>
     requires plain { inner_lists step ≡ [] }
     requires homes { HaveHomes site.now.homes (steps_of (λ inner. End) (step ∷ [])) }
+    requires room { length lines.old.items + length (step_lines (plan_at site.now)
+        (length lines.old.items) owed.old.items step) < 2 ^ 32 }
     ensures lines { OnOk result (lines.new.items ≡ lines.old.items
         ++ step_lines (plan_at site.now) (length lines.old.items) owed.old.items step) }
     ensures owed { OnOk result (owed.new.items ≡ owed_after (plan_at site.now)
@@ -141,13 +150,15 @@ fn emit_settled(
     requires within { number < length site.now.lists }
     requires homes { HaveHomes site.now.homes (list_tree site.now number) }
     requires none { owed.old.items ≡ [] }
+    requires counters { KeepsCounters (list_tree site.now number) }
+    requires room { MayCome (settled (plan_at site.now) (list_tree site.now number)) lines.old.items }
     ensures emits { IfOk result (Emits (settled
         (plan_at site.now) (list_tree site.now number)) lines.old.items lines.new.items) }
     ensures none { OnOk result (owed.new.items ≡ []) }
 {
     let steps = emit_list(site, lines, owed, number)?;
     let more = settle(lines, owed)?;
-    add(steps, more)
+    Ok(steps + more)
 }
 
 /// The lines of a turn.
@@ -164,14 +175,18 @@ fn emit_turn(
     requires within { body < length site.now.lists }
     requires homes { HaveHomes site.now.homes (list_tree site.now body) }
     requires none { owed.old.items ≡ [] }
+    requires turns { turns < 2 ^ 63 }
+    requires counters { KeepsCounters (list_tree site.now body) }
+    requires room { MayCome (turn_of (plan_at site.now) counter turns (settled
+        (plan_at site.now) (list_tree site.now body))) lines.old.items }
     ensures emits { IfOk result (Emits (turn_of (plan_at site.now) counter turns (settled
         (plan_at site.now) (list_tree site.now body))) lines.old.items lines.new.items) }
     ensures none { OnOk result (owed.new.items ≡ []) }
 {
-    let top = line_ahead(lines, 0)?;
+    let top = line_ahead(lines, 0);
     let steps = emit_settled(site, lines, owed, body)?;
     let more = emit_closing(site, lines, counter, turns, top)?;
-    add(steps, more)
+    Ok(steps + more)
 }
 
 /// The lines of the turns of a loop, where it has one.
@@ -188,6 +203,10 @@ fn emit_turns(
     requires within { body < length site.now.lists }
     requires homes { HaveHomes site.now.homes (list_tree site.now body) }
     requires none { owed.old.items ≡ [] }
+    requires turns { turns < 2 ^ 63 }
+    requires counters { KeepsCounters (list_tree site.now body) }
+    requires room { MayCome (turns_of turns (turn_of (plan_at site.now) counter turns (settled
+        (plan_at site.now) (list_tree site.now body)))) lines.old.items }
     ensures emits { IfOk result (Emits (turns_of turns (turn_of (plan_at site.now) counter turns
         (settled (plan_at site.now) (list_tree site.now body)))) lines.old.items lines.new.items) }
     ensures none { OnOk result (owed.new.items ≡ []) }
@@ -196,7 +215,7 @@ fn emit_turns(
         return Ok(0);
     }
     let steps = emit_turn(site, lines, owed, counter, turns, body)?;
-    times(turns, steps)
+    Ok(turns * steps)
 }
 
 /// The lines of a loop.
@@ -212,6 +231,10 @@ fn emit_loop(
     requires counter { IsSome (home_of site.now.homes (Register counter)) }
     requires within { body < length site.now.lists }
     requires homes { HaveHomes site.now.homes (list_tree site.now body) }
+    requires turns { turns < 2 ^ 63 }
+    requires counters { KeepsCounters (list_tree site.now body) }
+    requires room { MayCome (λ at. loop_of (plan_at site.now) at owed.old.items counter turns
+        (settled (plan_at site.now) (list_tree site.now body))) lines.old.items }
     ensures emits { IfOk result (Emits (λ at. loop_of (plan_at site.now) at
         owed.old.items counter turns (settled
         (plan_at site.now) (list_tree site.now body))) lines.old.items lines.new.items) }
@@ -219,7 +242,7 @@ fn emit_loop(
 {
     let steps = emit_start(site, lines, owed, counter, turns)?;
     let more = emit_turns(site, lines, owed, counter, turns, body)?;
-    add(steps, more)
+    Ok(steps + more)
 }
 
 /// Sets the target of a jump that stands in its place already.
@@ -248,24 +271,29 @@ fn emit_lists(
     requires no_within { no < length site.now.lists }
     requires no_homes { HaveHomes site.now.homes (list_tree site.now no) }
     requires none { owed.old.items ≡ [] }
+    requires yes_counters { KeepsCounters (list_tree site.now yes) }
+    requires no_counters { KeepsCounters (list_tree site.now no) }
+    requires room { MayCome (λ at. lists_of register at
+        (settled (plan_at site.now) (list_tree site.now yes))
+        (settled (plan_at site.now) (list_tree site.now no))) lines.old.items }
     ensures emits { IfOk result (Emits (λ at. lists_of register at
         (settled (plan_at site.now) (list_tree site.now yes))
         (settled (plan_at site.now) (list_tree site.now no))) lines.old.items lines.new.items) }
     ensures none { OnOk result (owed.new.items ≡ []) }
 {
-    let over = line_ahead(lines, 2)?;
+    let over = line_ahead(lines, 2);
     push_branch(lines, Branch::Blt, register, SECOND, over)?;
     let first_jump = lines.len();
     push_jump(lines, 0)?;
     let one = emit_settled(site, lines, owed, yes)?;
     let second_jump = lines.len();
     push_jump(lines, 0)?;
-    let middle = line_ahead(lines, 0)?;
+    let middle = line_ahead(lines, 0);
     let other = emit_settled(site, lines, owed, no)?;
-    let end = line_ahead(lines, 0)?;
+    let end = line_ahead(lines, 0);
     set_jump(lines, first_jump, middle);
     set_jump(lines, second_jump, end);
-    add(2, one.max(other))
+    Ok(2 + one.max(other))
 }
 
 /// The lines of a choice.
@@ -284,6 +312,11 @@ fn emit_choice(
     requires yes_homes { HaveHomes site.now.homes (list_tree site.now yes) }
     requires no_within { no < length site.now.lists }
     requires no_homes { HaveHomes site.now.homes (list_tree site.now no) }
+    requires yes_counters { KeepsCounters (list_tree site.now yes) }
+    requires no_counters { KeepsCounters (list_tree site.now no) }
+    requires room { MayCome (λ at. choice_of (plan_at site.now) at owed.old.items left below
+        (settled (plan_at site.now) (list_tree site.now yes))
+        (settled (plan_at site.now) (list_tree site.now no))) lines.old.items }
     ensures emits { IfOk result (Emits (λ at. choice_of (plan_at site.now) at
         owed.old.items left below
         (settled (plan_at site.now) (list_tree site.now yes))
@@ -293,5 +326,5 @@ fn emit_choice(
     let steps = emit_test(site, lines, owed, left, below)?;
     let register = register_of(FIRST, site.register(left));
     let more = emit_lists(site, lines, owed, register, yes, no)?;
-    add(steps, more)
+    Ok(steps + more)
 }

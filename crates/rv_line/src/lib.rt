@@ -10,8 +10,6 @@ mod label;
 mod line;
 mod mnemonic;
 pub mod spelling_laws;
-#[cfg(test)]
-mod tests;
 
 pub use assembly::{Assembly, Header};
 pub use emitted::text;

@@ -9,8 +9,6 @@ mod machine;
 mod memory;
 mod registers;
 mod step;
-#[cfg(test)]
-mod tests;
 mod text;
 
 pub use machine::{End, Regs, run};

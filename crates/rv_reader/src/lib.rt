@@ -24,8 +24,6 @@ mod row;
 mod rows;
 mod settle;
 mod split;
-#[cfg(test)]
-mod tests;
 
 pub use asm::read_asm;
 pub use error::AsmError;

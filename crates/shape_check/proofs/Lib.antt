@@ -4,11 +4,14 @@ pub mod CheckLemmas
 pub mod CountLemmas
 pub mod EntryLemmas
 pub mod ExpressionLemmas
+pub mod FewLemmas
 pub mod InputLemmas
 pub mod ItemLemmas
 pub mod JobLemmas
 pub mod JoinLemmas
+pub mod KindLemmas
 pub mod LimitLemmas
+pub mod LimitedLemmas
 pub mod ListLemmas
 pub mod NameLemmas
 pub mod NodeLemmas

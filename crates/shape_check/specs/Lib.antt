@@ -6,6 +6,7 @@ pub mod Jobs
 pub mod Judged
 pub mod Kept
 pub mod Layout
+pub mod Limited
 pub mod Operated
 pub mod Progress
 pub mod Rules

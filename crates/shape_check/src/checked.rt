@@ -2,6 +2,7 @@
 ghost use Rattle.std.specs.Prelude.{◌≡◌, ◌<◌, [], length, slice_index_or};
 ghost use Rattle.shape_check.specs.Kept.{IsChecked};
 
+use crate::laws::jobs_are_few;
 use crate::layout::Layout;
 use moa_tree::{Job, Program};
 use shapes_core::Shape;
@@ -84,6 +85,14 @@ impl Checked {
         ensures { result.now ≡ self.now.jobs }
     {
         &self.jobs
+    }
+
+    /// How many jobs there are.
+    pub fn job_count(&self) -> u32
+        ensures { result ≡ length self.now.jobs }
+    {
+        jobs_are_few();
+        self.jobs.len() as u32
     }
 
     /// The size, a bound for the text.

@@ -15,6 +15,7 @@ ghost use Rattle.moa_tree.specs.ShapeOf.{Shapes, shape_of};
 ghost use Rattle.moa_tree.specs.Subexpressions.{subexpressions};
 ghost use Rattle.moa_tree.specs.Values.{Env, shape_in, shapes_of, value};
 ghost use Rattle.shape_check.specs.Costs.{size, work};
+ghost use Rattle.shape_check.specs.Jobs.{jobs};
 ghost use Rattle.shape_check.specs.Layout.{gathered, name_of, output_of, scan_shapes, shapes_after, statement_shapes, words};
 ghost use Rattle.shape_check.specs.Rules.{are_equal, each_entry, is_declared, is_natural, is_part, is_permutation, is_place, is_scalar};
 ghost use Rattle.shape_check.specs.Statements.{verdict_of};
@@ -93,6 +94,11 @@ pub fn verdicts_are_shapes()
         → (at : ℕ) → verdict (fold shapes_after [] before) at of ≡ Ok (shape_of (fold shapes_after [] before) of) }
     ensures limits { (items : List Item) (shapes : Shapes) → verdict_of items ≡ Ok shapes
         → (size items ≤ greatest_size) × (work items ≤ greatest_work) × (words items ≤ most_words) }
+{}
+
+/// An accepted program has few jobs, since each counts in its size.
+pub fn jobs_are_few()
+    ensures { (items : List Item) (shapes : Shapes) → verdict_of items ≡ Ok shapes → length (jobs items) ≤ greatest_size }
 {}
 
 /// The operands of an accepted expression are accepted, wherever they stand, and their shapes keep the rules of its

@@ -12,8 +12,6 @@ mod no_memory;
 mod offset;
 mod shape;
 pub mod shape_examples;
-#[cfg(test)]
-mod tests;
 
 pub use area::{Area, AreaKind, Declared};
 pub use limits::{

@@ -14,25 +14,30 @@ use Rattle.normal_form.specs.declared.term.Term.{Term}
 use Rattle.normal_form.specs.declared.term.Term.TheVariants as term
 use Rattle.normal_form.specs.Assignments.{assigned}
 use Rattle.normal_form.specs.Forms.{Lit, Index, Get, Un, Bin, Case, Fold, Let, Normal}
-use Rattle.normal_form.specs.Kept.{AreEntries, AreOrdered, IsEmpty, IsForm, IsKept, IsNormal, Parts, form_in, top_form}
+use Rattle.normal_form.specs.Kept.{AreEntries, AreOrdered, IsEmpty, IsForm, IsKept, IsNormal, Parts, form_in, job_variables, top_form}
 use Rattle.normal_form.specs.Meaning.{Reached}
 use Rattle.normal_form.specs.Pool.{form_at, form_of, forms, forms_after, operands}
 use Rattle.stride_form.specs.declared.op_term.OpTerm.{OpTerm}
-use Rattle.stride_form.specs.Accesses.{Steps, walk_of, with_stride}
+use Rattle.stride_form.specs.Accesses.{Steps, walk_of, with_stride, word_access}
 use Rattle.stride_form.specs.Kept.{AreOpOrdered, AreSteps, IsOpEmpty, IsOpForm, IsOpKept, IsOperational, op_form_in, top_op_form}
-use Rattle.stride_form.specs.Operational.{operational}
+use Rattle.stride_form.specs.Operational.{Operational, operational, with_loads}
 use Rattle.stride_form.specs.Places.{IsFineAccess}
 use Rattle.stride_form.specs.Pool.{op_form_at, op_form_of, op_forms_after, op_operands, op_term}
 use Rattle.stride_form.proofs.MeaningLemmas.{reaches-fine}
+use Rattle.stride_form.proofs.StrideLemmas.{word-start}
 
 -- ---- the tree of a pool
 
-at-map : (list : List Normal) (number : ℕ) → op_form_at (map operational list) number ≡ operational (form_at list number)
+-- a form with the start of each access a word
+abbrev worded : Normal → Operational
+worded form = with_loads word_access form
+
+at-map : (list : List Normal) (number : ℕ) → op_form_at (map worded list) number ≡ worded (form_at list number)
 at-map [] number = refl
 at-map (first ∷ others) zero = refl
 at-map (first ∷ others) (suc number) = at-map others number
 
-of-map : (list : List Normal) (one : Term) → op_form_of (map operational list) (op_term one) ≡ operational (form_of list one)
+of-map : (list : List Normal) (one : Term) → op_form_of (map worded list) (op_term one) ≡ worded (form_of list one)
 of-map list (term.Lit value) = refl
 of-map list (term.Index entry) = refl
 of-map list (term.Load area shape at) = refl
@@ -43,21 +48,39 @@ of-map list (term.Fold operator var low high of) = ap (Fold operator var low hig
 of-map list (term.Let var bind of) = ap (Let var bind) (at-map list of)
 
 forms-map : (before : List Normal) (terms : List Term)
-    → op_forms_after (map operational before) (map op_term terms) ≡ map operational (forms_after before terms)
+    → op_forms_after (map worded before) (map op_term terms) ≡ map worded (forms_after before terms)
 forms-map before [] = refl
 forms-map before (first ∷ others) =
     ap (λ list. op_forms_after list (map op_term others))
-    (ap (λ form. map operational before ++ form ∷ []) (of-map before first) ∙ sym (map_push operational before (form_of before first)))
+    (ap (λ form. map worded before ++ form ∷ []) (of-map before first) ∙ sym (map_push worded before (form_of before first)))
     ∙ forms-map (before ++ form_of before first ∷ []) others
 
-top-map : (terms : List Term) → top_op_form (map op_term terms) ≡ operational (top_form terms)
-top-map terms =
-    ap₂ (λ list count. op_form_at list (count - 1)) (forms-map [] terms) (length-map terms op_term)
-    ∙ at-map (forms terms) (length terms - 1)
+-- the starts of what is kept are words as they are
+same-words : (own : ℕ) (known : List ℕ) (form : Normal) → IsKept own known form → worded form ≡ operational form
+same-words own known (Lit value) h = refl
+same-words own known (Index entry) h = refl
+same-words own known (Get element) h = ap Get (word-start known element h.1.0 h.1.1)
+same-words own known (Un op of) h = ap (Un op) (same-words own known of h)
+same-words own known (Bin op left right) h = ap₂ (Bin op) (same-words own known left h.0) (same-words own known right h.1)
+same-words own known (Case entry below first second) h =
+    ap₂ (Case entry below) (same-words own known first h.1.1.0) (same-words own known second h.1.1.1)
+same-words own known (Fold op var low high of) h = ap (Fold op var low high) (same-words own (var ∷ known) of h.1.1.1.1)
+same-words own known (Let var bind of) h = ap (Let var bind) (same-words own (var ∷ known) of h.1.1)
 
-pub tree-map : (terms : List Term) → op_form_in (map op_term terms) ≡ option_map operational (form_in terms)
-tree-map [] = refl
-tree-map (first ∷ others) = ap Some (top-map (first ∷ others))
+top-map : (parts : Parts) → IsNormal parts → top_op_form (map op_term parts.terms) ≡ operational (top_form parts.terms)
+top-map parts h =
+    let terms = parts.terms in
+    ap₂ (λ list count. op_form_at list (count - 1)) (forms-map [] terms) (length-map terms op_term)
+    ∙ at-map (forms terms) (length terms - 1) ∙ same-words parts.job.area (job_variables parts.shape) (top_form terms) h.kept
+
+tree-of-some : (terms : List Term) → 0 < length terms → top_op_form (map op_term terms) ≡ operational (top_form terms)
+    → op_form_in (map op_term terms) ≡ option_map operational (form_in terms)
+tree-of-some [] there same = absurd (omega (arith, there))
+tree-of-some (first ∷ others) there same = ap Some same
+
+pub tree-map : (parts : Parts) → IsForm parts → op_form_in (map op_term parts.terms) ≡ option_map operational (form_in parts.terms)
+tree-map parts (inl empty) = ap (λ terms. op_form_in (map op_term terms)) empty.terms ∙ sym (ap (λ terms. option_map operational (form_in terms)) empty.terms)
+tree-map parts (inr full) = tree-of-some parts.terms full.there (top-map parts full)
 
 -- ---- what is kept
 
@@ -135,8 +158,8 @@ normal-map parts h = record {
   few = omega (arith, h.few, length-map parts.terms op_term);
   ordered = ordered-map 0 parts.terms h.ordered;
   kept = let own = parts.job.area in
-      subst (IsOpKept own _) (sym (top-map parts.terms)) (kept-map own _ (top_form parts.terms) h.kept);
-  fine = λ index inside. subst (λ form. Reached IsFineAccess (assigned index) form) (sym (top-map parts.terms))
+      subst (IsOpKept own _) (sym (top-map parts h)) (kept-map own _ (top_form parts.terms) h.kept);
+  fine = λ index inside. subst (λ form. Reached IsFineAccess (assigned index) form) (sym (top-map parts h))
       (reaches-fine (assigned index) (top_form parts.terms) (h.fine index inside));
 }
 

@@ -1,12 +1,22 @@
 -- Where a stride is added, and the walk of entries with one more.
-use Rattle.std.specs.Prelude.{◌≡◌, ℕ, zero, suc, ◌<◌, ◌≤◌, ◌==◌, ℤ, pos, ◌+ℤ◌, List, [], ◌∷◌, length, nat_lt, slice_index_or, slice_set}
+use Rattle.std.specs.Prelude.{◌≡◌, ℕ, zero, suc, ◌+◌, ◌*◌, ◌^◌, ◌<◌, ◌≤◌, ◌⊎◌, ◌==◌, max, ℤ, pos, negsuc, ◌+ℤ◌, ◌-ℤ◌, ◌*ℤ◌, unsigned_abs}
+use Rattle.std.specs.Prelude.{Bool, true, false, if◌then◌else◌, List, [], ◌∷◌, length, nat_lt, slice_index_or, slice_set}
+use Rattle.std.specs.Int.{int_wrap, w64}
 use Rattle.std.specs.List.{insert}
-use Rattle.std.proofs.Common.{refl, sym, ap, ◌∙◌, arith, ne_eqb, eq-eqb, le-ltb, lt-ltb}
+use Rattle.std.proofs.Common.{refl, sym, ap, ap₂, ◌∙◌, arith, inl, inr, ne_eqb, eq-eqb, le-ltb, lt-ltb}
+use Rattle.std.proofs.Math.Nat.{mul-le-mul, mul-le-mul_left}
 use Rattle.std.proofs.lemmas.Bool.{cond-false, cond-true}
-use Rattle.shapes_core.specs.Shape.{total}
+use Rattle.std.proofs.lemmas.Bool.Decides.{nat_tests}
+use Rattle.std.proofs.lemmas.Int.{fits_signed_from_abs, int_wrap-add_left, int_wrap_fits, ints, unsigned_abs-mul}
+use Rattle.shapes_core.specs.Limits.{greatest_extent}
+use Rattle.shapes_core.specs.Shape.{IsShape, span, total}
+use Rattle.shapes_core.proofs.DigitLemmas.{span-total}
+use Rattle.shapes_core.proofs.SpanLemmas.{span_drop, span_pos, span_within}
 use Rattle.normal_form.specs.declared.entry.Entry.{Entry}
 use Rattle.normal_form.specs.declared.entry.Entry.TheVariants.{At, Plus, Minus}
-use Rattle.stride_form.specs.Accesses.{Steps, Walk, walk_of, with_entry, with_stride}
+use Rattle.normal_form.specs.Forms.{Element}
+use Rattle.normal_form.specs.Kept.{AreEntries, IsEntry}
+use Rattle.stride_form.specs.Accesses.{AreNear, Steps, Walk, access_of, constant_of, strides_with, walk_of, with_stride, word_access}
 
 abbrev pub var_at : Steps → ℕ → ℕ
 var_at steps place = (slice_index_or steps place (0, pos 0)).0
@@ -46,43 +56,154 @@ stride-new var stride (first ∷ others) (suc place) within smaller next =
     ∙ ap (λ more. first ∷ more) (stride-new var stride others place (omega (arith, within))
     (λ k below. smaller (suc k) (omega (arith, below))) (λ inside. next (omega (arith, inside))))
 
+-- ---- how great strides are, and how many
+
+nearer : (few most : ℕ) (steps : Steps) → few ≤ most → AreNear few steps → AreNear most steps
+nearer few most [] h near = tt
+nearer few most (first ∷ others) h near = (omega (arith, h, near.0), nearer few most others h near.1)
+
+pub near-at : (most place : ℕ) (steps : Steps) → place < length steps → AreNear most steps
+    → unsigned_abs (slice_index_or steps place (0, pos 0)).1 ≤ most
+near-at most place [] within near = absurd (omega (arith, within))
+near-at most zero (first ∷ others) within near = near.0
+near-at most (suc place) (first ∷ others) within near = near-at most place others (omega (arith, within)) near.1
+
+pub sum-near : (k g : ℕ) (a b : ℤ) → unsigned_abs a ≤ k → unsigned_abs b ≤ g → unsigned_abs (a +ℤ b) ≤ k + g
+sum-near k g a b one other = omega (arith, ints, one, other)
+
+near-choice : (k g var : ℕ) (stride : ℤ) (first : ℕ × ℤ) (others more : Steps) (same below : Bool) → unsigned_abs stride ≤ g
+    → AreNear k (first ∷ others) → AreNear (k + g) more
+    → AreNear (k + g) (if same then (var, first.1 +ℤ stride) ∷ others else (if below then (var, stride) ∷ first ∷ others else first ∷ more))
+near-choice k g var stride first others more true below small near later =
+    (sum-near k g first.1 stride near.0 small, nearer k (k + g) others (omega arith) near.1)
+near-choice k g var stride first others more false true small near later =
+    (omega (arith, small), nearer k (k + g) (first ∷ others) (omega arith) near)
+near-choice k g var stride first others more false false small near later = (omega (arith, near.0), later)
+
+near-with : (k g var : ℕ) (stride : ℤ) (steps : Steps) → unsigned_abs stride ≤ g → AreNear k steps
+    → AreNear (k + g) (with_stride var stride steps)
+near-with k g var stride [] small near = (omega (arith, small), tt)
+near-with k g var stride (first ∷ others) small near =
+    near-choice k g var stride first others (with_stride var stride others) (var == first.0) (nat_lt var first.0) small near
+    (near-with k g var stride others small near.1)
+
+near-entry : (k g w : ℕ) (entry : Entry) (steps : Steps) → w ≤ g → AreNear k steps → AreNear (k + g) (strides_with (pos w) entry steps)
+near-entry k g w (At constant) steps small near = nearer k (k + g) steps (omega arith) near
+near-entry k g w (Plus var add) steps small near = near-with k g var (pos w) steps small near
+near-entry k g w (Minus var add) steps small near = near-with k g var (pos 0 -ℤ pos w) steps (omega (arith, ints, small)) near
+
+length-choice : (var : ℕ) (stride : ℤ) (first : ℕ × ℤ) (others more : Steps) (same below : Bool) → length more ≤ suc (length others)
+    → length (if same then (var, first.1 +ℤ stride) ∷ others else (if below then (var, stride) ∷ first ∷ others else first ∷ more))
+    ≤ suc (suc (length others))
+length-choice var stride first others more true below h = omega arith
+length-choice var stride first others more false true h = omega arith
+length-choice var stride first others more false false h = omega (arith, h)
+
+length-with : (var : ℕ) (stride : ℤ) (steps : Steps) → length (with_stride var stride steps) ≤ suc (length steps)
+length-with var stride [] = omega arith
+length-with var stride (first ∷ others) =
+    length-choice var stride first others (with_stride var stride others) (var == first.0) (nat_lt var first.0) (length-with var stride others)
+
+length-entry : (w : ℤ) (entry : Entry) (steps : Steps) → length (strides_with w entry steps) ≤ suc (length steps)
+length-entry w (At constant) steps = omega arith
+length-entry w (Plus var add) steps = length-with var w steps
+length-entry w (Minus var add) steps = length-with var (pos 0 -ℤ w) steps
+
 -- ---- walks
+
+-- a total is no greater than the span
+pub small-total : (shape : List ℕ) (g : ℕ) → span shape ≤ g → total shape ≤ g
+small-total shape g small = least (total shape) (span shape) g (span-total shape) small where
+  least : (t s g : ℕ) → (0 < t → s ≡ t) → s ≤ g → t ≤ g
+  least zero s g same small = omega arith
+  least (suc t) s g same small = omega (arith, same (omega arith), small)
+
+pub small-rest : (n : ℕ) (shape : List ℕ) (g : ℕ) → span (n ∷ shape) ≤ g → span shape ≤ g
+small-rest n shape g small = omega (arith, span_drop 1 (n ∷ shape), small)
+
+pub walk-near : (entries : List Entry) (shape : List ℕ) (g : ℕ) → span shape ≤ g
+    → AreNear (length entries * g) (walk_of entries shape).strides
+walk-near [] shape g small = tt
+walk-near (entry ∷ entries) [] g small = tt
+walk-near (entry ∷ entries) (n ∷ shape) g small =
+    let rest = small-rest n shape g small in
+    nearer (length entries * g + g) (suc (length entries) * g) _ (omega arith)
+    (near-entry (length entries * g) g (total shape) entry (walk_of entries shape).strides (small-total shape g rest)
+    (walk-near entries shape g rest))
+
+-- a list of strides that may still grow
+pub walk-room : (entries : List Entry) (shape : List ℕ) → length entries ≤ 6 → span shape ≤ greatest_extent
+    → AreNear (2 ^ 62) (walk_of entries shape).strides
+walk-room entries shape few small =
+    nearer (length entries * greatest_extent) (2 ^ 62) _ (omega (arith, few)) (walk-near entries shape greatest_extent small)
+
+pub walk-few : (entries : List Entry) (shape : List ℕ) → length (walk_of entries shape).strides ≤ length entries
+walk-few [] shape = omega arith
+walk-few (entry ∷ entries) [] = omega arith
+walk-few (entry ∷ entries) (n ∷ shape) =
+    omega (arith, length-entry (pos (total shape)) entry (walk_of entries shape).strides, walk-few entries shape)
 
 abbrev pub no_walk : Walk
 no_walk = record { start = pos 0; strides = [] }
 
-pub walk-none : (entries : List Entry) (extents : List ℕ) → length extents ≡ 0 → walk_of entries extents ≡ no_walk
+pub walk-none : (entries : List Entry) (extents : List ℕ) → (length entries ≡ 0) ⊎ (length extents ≡ 0) → walk_of entries extents ≡ no_walk
 walk-none [] extents none = refl
 walk-none (entry ∷ entries) [] none = refl
-walk-none (entry ∷ entries) (n ∷ extents) none = absurd (omega (arith, none))
+walk-none (entry ∷ entries) (n ∷ extents) (inl none) = absurd (omega (arith, none))
+walk-none (entry ∷ entries) (n ∷ extents) (inr none) = absurd (omega (arith, none))
 
--- the start and the strides with an entry more hang on those before alone
-start-only : (w : ℤ) (entry : Entry) (walk : Walk) (strides : Steps)
-    → (with_entry w entry (record { start = walk.start; strides = strides })).start ≡ (with_entry w entry walk).start
-start-only w (At constant) walk strides = refl
-start-only w (Plus var add) walk strides = refl
-start-only w (Minus var add) walk strides = refl
-
-strides-only : (w : ℤ) (entry : Entry) (walk : Walk) (start : ℤ)
-    → (with_entry w entry (record { start = start; strides = walk.strides })).strides ≡ (with_entry w entry walk).strides
-strides-only w (At constant) walk start = refl
-strides-only w (Plus var add) walk start = refl
-strides-only w (Minus var add) walk start = refl
-
+-- with an entry in front, the start and the strides are those of the rest with it
 pub start-more : (all entries : List Entry) (entry : Entry) (shape extents : List ℕ) (n : ℕ) (w start made : ℤ)
-    → all ≡ entry ∷ entries → shape ≡ n ∷ extents → w ≡ pos (total extents) → start ≡ (walk_of entries extents).start
-    → made ≡ (with_entry w entry (record { start = start; strides = [] })).start → made ≡ (walk_of all shape).start
+    → all ≡ entry ∷ entries → shape ≡ n ∷ extents → w ≡ pos (total extents) → start ≡ int_wrap w64 (walk_of entries extents).start
+    → made ≡ int_wrap w64 (start +ℤ w *ℤ constant_of entry) → made ≡ int_wrap w64 (walk_of all shape).start
 start-more all entries entry shape extents n w start made front outer weight before made_so =
     let walk = walk_of entries extents in
-    made_so ∙ ap (λ z. (with_entry w entry (record { start = z; strides = [] })).start) before
-    ∙ start-only w entry walk [] ∙ ap (λ z. (with_entry z entry walk).start) weight
-    ∙ sym (ap (λ list. (walk_of list shape).start) front ∙ ap (λ list. (walk_of (entry ∷ entries) list).start) outer)
+    made_so ∙ ap (λ z. int_wrap w64 (z +ℤ w *ℤ constant_of entry)) before
+    ∙ int_wrap-add_left w64 walk.start (w *ℤ constant_of entry)
+    ∙ ap (λ z. int_wrap w64 (walk.start +ℤ z *ℤ constant_of entry)) weight
+    ∙ sym (ap₂ (λ list extents. int_wrap w64 (walk_of list extents).start) front outer)
 
 pub strides-more : (all entries : List Entry) (entry : Entry) (shape extents : List ℕ) (n : ℕ) (w : ℤ) (strides made : Steps)
     → all ≡ entry ∷ entries → shape ≡ n ∷ extents → w ≡ pos (total extents) → strides ≡ (walk_of entries extents).strides
-    → made ≡ (with_entry w entry (record { start = pos 0; strides = strides })).strides → made ≡ (walk_of all shape).strides
+    → made ≡ strides_with w entry strides → made ≡ (walk_of all shape).strides
 strides-more all entries entry shape extents n w strides made front outer weight before made_so =
-    let walk = walk_of entries extents in
-    made_so ∙ ap (λ list. (with_entry w entry (record { start = pos 0; strides = list })).strides) before
-    ∙ strides-only w entry walk (pos 0) ∙ ap (λ z. (with_entry z entry walk).strides) weight
-    ∙ sym (ap (λ list. (walk_of list shape).strides) front ∙ ap (λ list. (walk_of (entry ∷ entries) list).strides) outer)
+    made_so ∙ ap₂ (λ z list. strides_with z entry list) weight before
+    ∙ sym (ap₂ (λ list extents. (walk_of list extents).strides) front outer)
+
+-- ---- the start of a load of a form
+
+step-start : (w k : ℕ) (s c : ℤ) → w ≤ 2 ^ 24 → unsigned_abs c ≤ 2 ^ 34 → unsigned_abs s ≤ k * 2 ^ 58
+    → unsigned_abs (s +ℤ pos w *ℤ c) ≤ suc k * 2 ^ 58
+step-start w k s c weight constant start =
+    let product : unsigned_abs (pos w *ℤ c) ≤ 2 ^ 24 * 2 ^ 34 = omega (arith, unsigned_abs-mul (pos w) c, mul-le-mul weight constant) in
+    let sum = sum-near (k * 2 ^ 58) (2 ^ 24 * 2 ^ 34) s (pos w *ℤ c) start product in
+    omega (arith, sum)
+
+small-constant : (known : List ℕ) (entry : Entry) (n : ℕ) → n ≤ 2 ^ 24 → IsEntry known entry n → unsigned_abs (constant_of entry) ≤ 2 ^ 34
+small-constant known (At (pos constant)) n small h = omega (arith, small, h)
+small-constant known (At (negsuc constant)) n small h = elim h [ ]
+small-constant known (Plus var add) n small h = h.1
+small-constant known (Minus var add) n small h = h.1
+
+start-small : (known : List ℕ) (entries : List Entry) (shape : List ℕ) → span shape ≤ 2 ^ 24 → AreEntries known entries shape
+    → unsigned_abs (walk_of entries shape).start ≤ length shape * 2 ^ 58
+start-small known [] [] small h = omega arith
+start-small known [] (n ∷ shape) small h = elim h [ ]
+start-small known (entry ∷ entries) [] small h = elim h [ ]
+start-small known (entry ∷ entries) (n ∷ shape) small h =
+    let rest = small-rest n shape (2 ^ 24) small in
+    step-start (total shape) (length shape) (walk_of entries shape).start (constant_of entry) (small-total shape (2 ^ 24) rest)
+    (small-constant known entry n (first-extent n shape small) h.0) (start-small known entries shape rest h.1) where
+      first-extent : (n : ℕ) (shape : List ℕ) → span (n ∷ shape) ≤ 2 ^ 24 → n ≤ 2 ^ 24
+      first-extent n shape small =
+          let one : max n 1 * 1 ≤ max n 1 * span shape = mul-le-mul_left (max n 1) (span_pos shape) in
+          omega (arith, one, small)
+
+-- it is a word as it is
+pub word-start : (known : List ℕ) (element : Element) → AreEntries known element.at element.shape → IsShape element.shape
+    → word_access element ≡ access_of element
+word-start known element entries shaped =
+    let small = start-small known element.at element.shape (span_within element.shape shaped) entries in
+    let few : length element.shape ≤ 6 = grind (arith, nat_tests, shaped) in
+    ap (λ start. record { area = element.area; start = start; strides = (walk_of element.at element.shape).strides })
+    (int_wrap_fits w64 _ (fits_signed_from_abs w64 _ (omega (arith, small, few))))

@@ -1,6 +1,8 @@
 -- Loads by a start and a stride for each variable: the row-major offset of entries, collected by variables. After Mullin (1988), whose offset is
 -- gamma, and Mullin and Thibault (1994).
-use Rattle.std.specs.Prelude.{ℕ, ◌==◌, ℤ, pos, ◌+ℤ◌, ◌-ℤ◌, ◌*ℤ◌, List, [], ◌∷◌, nat_lt, unsigned_abs, if◌then◌else◌}
+use Rattle.std.specs.Prelude.{ℕ, ◌≤◌, ◌==◌, ℤ, pos, ◌+ℤ◌, ◌-ℤ◌, ◌*ℤ◌, List, [], ◌∷◌, nat_lt, unsigned_abs, if◌then◌else◌}
+use Rattle.std.specs.Int.{int_wrap, w64}
+use Rattle.std.specs.List.{AllByRecursion}
 use Rattle.shapes_core.specs.Shape.{total}
 use Rattle.normal_form.specs.declared.entry.Entry.{Entry}
 use Rattle.normal_form.specs.declared.entry.Entry.TheVariants.{At, Plus, Minus}
@@ -25,12 +27,21 @@ with_stride var stride (first ∷ others) =
     else (if nat_lt var first.0 then (var, stride) ∷ first ∷ others
     else first ∷ with_stride var stride others)
 
--- a walk with an entry more, on an axis of this weight
+-- the constant of an entry, beside a variable or alone
+abbrev pub constant_of : Entry → ℤ
+constant_of (At constant) = constant
+constant_of (Plus var add) = add
+constant_of (Minus var add) = add
+
+-- the strides with an entry more, on an axis of this weight
+abbrev pub strides_with : ℤ → Entry → Steps → Steps
+strides_with weight (At constant) steps = steps
+strides_with weight (Plus var add) steps = with_stride var weight steps
+strides_with weight (Minus var add) steps = with_stride var (pos 0 -ℤ weight) steps
+
+-- and a walk
 abbrev pub with_entry : ℤ → Entry → Walk → Walk
-with_entry weight (At constant) walk = record { start = walk.start +ℤ weight *ℤ constant; strides = walk.strides }
-with_entry weight (Plus var add) walk = record { start = walk.start +ℤ weight *ℤ add; strides = with_stride var weight walk.strides }
-with_entry weight (Minus var add) walk =
-    record { start = walk.start +ℤ weight *ℤ add; strides = with_stride var (pos 0 -ℤ weight) walk.strides }
+with_entry weight entry walk = record { start = walk.start +ℤ weight *ℤ constant_of entry; strides = strides_with weight entry walk.strides }
 
 -- the row-major offset of entries in a shape
 abbrev pub walk_of : List Entry → List ℕ → Walk
@@ -43,6 +54,16 @@ abbrev pub access_of : Element → Access
 access_of element =
     let walk = walk_of element.at element.shape in
     record { area = element.area; start = walk.start; strides = walk.strides }
+
+-- the same with its start as 64 bits hold it, which changes no start of a form
+abbrev pub word_access : Element → Access
+word_access element =
+    let walk = walk_of element.at element.shape in
+    record { area = element.area; start = int_wrap w64 walk.start; strides = walk.strides }
+
+-- strides that are at most so great
+abbrev pub AreNear : ℕ → Steps → Type 0
+AreNear most steps = AllByRecursion (λ step. unsigned_abs step.1 ≤ most) steps
 
 -- the sum of strides times variables
 abbrev pub walked : Assignment → Steps → ℤ

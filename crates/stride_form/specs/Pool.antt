@@ -6,14 +6,14 @@ use Rattle.normal_form.specs.declared.term.Term.TheVariants as term
 use Rattle.normal_form.specs.Forms.{Lit, Index, Get, Un, Bin, Case, Fold, Let}
 use Rattle.stride_form.specs.declared.op_term.OpTerm.{OpTerm}
 use Rattle.stride_form.specs.declared.op_term.OpTerm.TheVariants as op
-use Rattle.stride_form.specs.Accesses.{access_of}
+use Rattle.stride_form.specs.Accesses.{word_access}
 use Rattle.stride_form.specs.Operational.{Operational}
 
--- a term with its load spelled as an access
+-- a term with its load spelled as an access, whose start is a word
 abbrev pub op_term : Term → OpTerm
 op_term (term.Lit value) = op.Lit value
 op_term (term.Index entry) = op.Index entry
-op_term (term.Load area shape at) = op.Get (access_of (record { area = area; shape = shape; at = at }))
+op_term (term.Load area shape at) = op.Get (word_access (record { area = area; shape = shape; at = at }))
 op_term (term.Un operator of) = op.Un operator of
 op_term (term.Bin operator left right) = op.Bin operator left right
 op_term (term.Case entry below first second) = op.Case entry below first second

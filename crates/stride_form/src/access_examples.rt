@@ -2,7 +2,7 @@
 ghost use Rattle.std.specs.Prelude.{◌≡◌, ◌+◌, pos, negsuc, [], ◌∷◌};
 ghost use Rattle.normal_form.specs.declared.entry.Entry.TheVariants.{At, Plus, Minus};
 ghost use Rattle.normal_form.specs.Moves.{variable};
-ghost use Rattle.stride_form.specs.Accesses.{access_of, place_of, with_stride};
+ghost use Rattle.stride_form.specs.Accesses.{access_of, place_of, with_stride, word_access};
 
 /// A load of each kind of entries, with its start and strides.
 pub fn accesses()
@@ -20,6 +20,16 @@ pub fn accesses()
         ≡ record { area = 2; start = pos 0; strides = [] } }
     ensures one_variable { access_of (record { area = 0; shape = 3 ∷ 4 ∷ []; at = Plus 5 (pos 2) ∷ Minus 5 (pos 3) ∷ [] })
         ≡ record { area = 0; start = pos 11; strides = (5, pos 3) ∷ [] } }
+{}
+
+/// Starts as words, at an entry with a constant that no form has and at one beside it.
+pub fn words()
+    ensures small { word_access (record { area = 0; shape = 3 ∷ 4 ∷ []; at = Plus 5 (pos 2) ∷ Minus 5 (pos 3) ∷ [] })
+        ≡ record { area = 0; start = pos 11; strides = (5, pos 3) ∷ [] } }
+    ensures greatest { word_access (record { area = 0; shape = 1 ∷ []; at = Plus 5 (pos 9223372036854775807) ∷ [] })
+        ≡ record { area = 0; start = pos 9223372036854775807; strides = (5, pos 1) ∷ [] } }
+    ensures beyond { word_access (record { area = 0; shape = 1 ∷ 2 ∷ []; at = Plus 5 (pos 4611686018427387904) ∷ At (pos 0) ∷ [] })
+        ≡ record { area = 0; start = negsuc 9223372036854775807; strides = (5, pos 2) ∷ [] } }
 {}
 
 /// The places of accesses.

@@ -1,23 +1,24 @@
 // The access that a load is: its entries collected by variables, from the last axis to the first.
-ghost use Rattle.std.specs.Prelude.{◌≡◌, ◌≤◌, ◌<◌, ℕ, ℤ, List, pos, ◌+ℤ◌, ◌*ℤ◌, IfOk, IfSome, length, slice_index_or};
-ghost use Rattle.shapes_core.specs.Shape.{total};
-ghost use Rattle.stride_form.specs.Accesses.{access_of, walk_of, with_entry, with_stride};
+ghost use Rattle.std.specs.Prelude.{◌≡◌, ◌≤◌, ◌<◌, ◌^◌, ◌+ℤ◌, ◌*ℤ◌, ℕ, [], pos, IfOk, length, slice_index_or, unsigned_abs};
+ghost use Rattle.std.specs.Int.{int_wrap, w64};
+ghost use Rattle.shapes_core.specs.Limits.{greatest_extent};
+ghost use Rattle.shapes_core.specs.Shape.{span, total};
+ghost use Rattle.stride_form.specs.Accesses.{AreNear, constant_of, strides_with, walk_of, with_stride, word_access};
 
 use crate::access::Access;
 use normal_form::{Entries, Entry, Strides};
+use shapes_core::laws::span_laws;
 use shapes_core::{NoMemory, Shape};
 use std::alloc::Global;
 
-/// The row-major offset of entries in a shape, and the total of the shape.
+/// The row-major offset of entries in a shape, with its start as a word.
 #[derive(Drop)]
 struct Walked {
-    total: i64,
     start: i64,
     strides: Vec<(u32, i64)>,
 }
 
-/// The access that the load of an area of this shape is at entries. Where a number leaves 64 bits, which none
-/// does where entries are small, the answer is as for want of memory.
+/// The access that the load of an area of this shape is at entries.
 pub(crate) fn access(
     alloc: Global,
     area: u32,
@@ -25,106 +26,103 @@ pub(crate) fn access(
     at: &Entries,
 ) -> Result<Access, NoMemory>
     ensures { IfOk result (λ access.
-        access ≡ access_of (record { area = area; shape = shape.now; at = at.now })) }
+        access ≡ word_access (record { area = area; shape = shape.now; at = at.now })) }
 {
     let offset = collect(alloc, at.list(), shape.extents())?;
-    let Some(strides) = Strides::new(&offset.strides) else {
-        return Err(NoMemory);
-    };
     Ok(Access {
         area,
         start: offset.start,
-        strides,
+        strides: Strides::new(&offset.strides).unwrap(),
     })
 }
 
 /// The offset of entries, one an axis of these extents.
 fn collect(alloc: Global, entries: &[Entry], extents: &[u64]) -> Result<Walked, NoMemory>
-    ensures total { IfOk result (λ made. made.total ≡ pos (total extents.now)) }
-    ensures start { IfOk result (λ made. made.start ≡ (walk_of entries.now extents.now).start) }
+    requires few { length entries.now ≤ 6 }
+    requires small { span extents.now ≤ greatest_extent }
+    ensures start { IfOk result (λ made. made.start ≡ int_wrap w64 (walk_of entries.now extents.now).start) }
     ensures strides { IfOk result (λ made. made.strides.items ≡ (walk_of entries.now extents.now).strides) }
 {
-    let Some((extent, extents)) = extents.split_first() else {
-        return Ok(Walked {
-            total: 1,
-            start: 0,
-            strides: Vec::new(alloc),
-        });
-    };
     let Some((entry, entries)) = entries.split_first() else {
-        return Err(NoMemory);
+        return Ok(no_offset(alloc));
     };
-    let Walked {
-        total,
-        start,
-        mut strides,
-    } = collect(alloc, entries, extents)?;
-    let Some(start) = start_with(total, *entry, start) else {
-        return Err(NoMemory);
+    let Some((_, extents)) = extents.split_first() else {
+        return Ok(no_offset(alloc));
     };
-    add_entry(&mut strides, total, *entry)?;
-    let Some(total) = times(*extent, total) else {
-        return Err(NoMemory);
-    };
+    let Walked { start, mut strides } = collect(alloc, entries, extents)?;
+    let weight = total_of(extents);
+    add_entry(&mut strides, weight, *entry)?;
     Ok(Walked {
-        total,
-        start,
+        start: start_with(weight, *entry, start),
         strides,
     })
 }
 
-/// An extent times a total.
-fn times(extent: u64, total: i64) -> Option<i64>
-    ensures { IfSome result (λ product. product ≡ pos extent *ℤ total) }
+/// The offset of no entry.
+fn no_offset(alloc: Global) -> Walked
+    ensures start { result.start ≡ pos 0 }
+    ensures strides { result.strides.items ≡ [] }
 {
-    let Ok(extent) = i64::try_from(extent) else {
-        return None;
-    };
-    extent.checked_mul(total)
+    Walked {
+        start: 0,
+        strides: Vec::new(alloc),
+    }
 }
 
-/// The start with an entry more.
-fn start_with(weight: i64, entry: Entry, start: i64) -> Option<i64>
-    ensures { (strides : List (ℕ × ℤ)) → IfSome result (λ sum.
-        sum ≡ (with_entry weight entry (record { start = start; strides = strides })).start) }
+/// The product of extents.
+fn total_of(extents: &[u64]) -> i64
+    requires { span extents.now ≤ greatest_extent }
+    ensures value { result ≡ pos (total extents.now) }
+    ensures small { total extents.now ≤ greatest_extent }
 {
-    let constant = match entry {
+    span_laws();
+    match extents {
+        [] => 1,
+        [extent, others @ ..] => *extent as i64 * total_of(others),
+    }
+}
+
+/// The start with an entry more, as a word.
+fn start_with(weight: i64, entry: Entry, start: i64) -> i64
+    ensures { result ≡ int_wrap w64 (start +ℤ weight *ℤ constant_of entry) }
+{
+    let part = weight.wrapping_mul(constant_of(entry));
+    start.wrapping_add(part)
+}
+
+/// The constant of an entry.
+fn constant_of(entry: Entry) -> i64
+    ensures { result ≡ constant_of entry }
+{
+    match entry {
         Entry::At(constant) => constant,
         Entry::Plus { add, .. } => add,
         Entry::Minus { add, .. } => add,
-    };
-    let Some(part) = weight.checked_mul(constant) else {
-        return None;
-    };
-    start.checked_add(part)
+    }
 }
 
 /// Adds the stride of an entry on an axis of this weight.
 fn add_entry(strides: &mut Vec<(u32, i64)>, weight: i64, entry: Entry) -> Result<(), NoMemory>
-    ensures { (start : ℤ) → IfOk result (λ _. strides.new.items
-        ≡ (with_entry weight entry (record { start = start; strides = strides.old.items })).strides) }
+    requires weight { unsigned_abs weight ≤ greatest_extent }
+    requires near { AreNear (2 ^ 62) strides.old.items }
+    ensures { IfOk result (λ _. strides.new.items ≡ strides_with weight entry strides.old.items) }
 {
     match entry {
         Entry::At(_) => Ok(()),
         Entry::Plus { var, .. } => add_stride(strides, var, weight),
-        Entry::Minus { var, .. } => {
-            let Some(stride) = 0i64.checked_sub(weight) else {
-                return Err(NoMemory);
-            };
-            add_stride(strides, var, stride)
-        }
+        Entry::Minus { var, .. } => add_stride(strides, var, -weight),
     }
 }
 
 /// Adds a stride at the rising variable, or to the stride that is there.
 fn add_stride(strides: &mut Vec<(u32, i64)>, var: u32, stride: i64) -> Result<(), NoMemory>
+    requires stride { unsigned_abs stride ≤ greatest_extent }
+    requires near { AreNear (2 ^ 62) strides.old.items }
     ensures { IfOk result (λ _. strides.new.items ≡ with_stride var stride strides.old.items) }
 {
     let place = place(strides, var);
     if place < strides.len() && strides[place].0 == var {
-        let Some(sum) = strides[place].1.checked_add(stride) else {
-            return Err(NoMemory);
-        };
+        let sum = strides[place].1 + stride;
         strides[place] = (var, sum);
     } else {
         strides.insert(place, (var, stride))?;

@@ -9,8 +9,6 @@ mod conversion;
 pub mod laws;
 mod op_term;
 mod operational;
-#[cfg(test)]
-mod tests;
 
 pub use access::Access;
 pub use conversion::to_operational;

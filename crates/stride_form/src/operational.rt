@@ -1,11 +1,14 @@
 // The operational form of a job.
-ghost use Rattle.std.specs.Prelude.{◌≡◌, ◌<◌, ◌+◌, ◌↔◌, IsTrue, [], length, slice_get, Some};
+ghost use Rattle.std.specs.Prelude.{◌≡◌, ◌<◌, ◌+◌, ◌↔◌, IsTrue, [], length, map, slice_get, Some};
+ghost use Rattle.shapes_core.specs.Shape.{total};
+ghost use Rattle.normal_form.specs.Kept.{IsFoldJob};
 ghost use Rattle.stride_form.specs.Kept.{IsOpForm};
 
 use crate::op_term::OpTerm;
 use moa_tree::Job;
 use normal_form::Region;
 use shapes_core::Shape;
+use std::alloc::Global;
 use std::marker::Model;
 
 /// The values of one job on a region, a box of index vectors of its shape, as a term over stored arrays, whose elements it
@@ -31,7 +34,7 @@ impl Model for Operational {
 
 impl Operational {
     /// The form of a job whose array has this shape, on a region; the last term is its top.
-    pub(crate) fn new(job: Job, shape: Shape, region: Region, terms: Vec<OpTerm>) -> Operational
+    pub fn new(job: Job, shape: Shape, region: Region, terms: Vec<OpTerm>) -> Operational
         requires { IsOpForm (record { job = job; shape = shape; region = region; terms = terms.items }) }
         ensures { result ≡ record { job = job; shape = shape; region = region; terms = terms.items } }
     {
@@ -41,6 +44,17 @@ impl Operational {
             region,
             terms,
         }
+    }
+
+    /// The empty form of a job whose array has no element. Its region is the whole shape. It takes no memory.
+    pub fn none(alloc: Global, job: Job, shape: Shape) -> Operational
+        requires none { total shape ≡ 0 }
+        requires folds { IsFoldJob job.fold shape }
+        ensures { result ≡ record { job = job; shape = shape; region = map (λ n. (0, n)) shape; terms = [] } }
+    {
+        let _extents = shape.extents();
+        let region = Region::whole(&shape);
+        Operational::new(job, shape, region, Vec::new(alloc))
     }
 
     /// The job, by the number of its area, its node and the operator that it folds by.

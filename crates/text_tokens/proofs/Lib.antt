@@ -1,5 +1,6 @@
 pub mod CutLemmas
 pub mod DigitLemmas
+pub mod FewLemmas
 pub mod FitLemmas
 pub mod KindLemmas
 pub mod NumberLemmas

@@ -39,7 +39,7 @@ AllRise : List (Token × Position) → Type 0
 AllRise list = AllPairs (λ t u. IsBefore t.1 u.1) list
 
 -- what begins with a byte is one token that stands there, or none
-first_token_cases : (position : Position) (first : ℕ) (others : List ℕ) → (first_token position first others ≡ []) ⊎ ((token : Token) × (first_token position first others ≡ (token, position) ∷ []))
+pub first_token_cases : (position : Position) (first : ℕ) (others : List ℕ) → (first_token position first others ≡ []) ⊎ ((token : Token) × (first_token position first others ≡ (token, position) ∷ []))
 first_token_cases position first others = by_tests (is_separator first) (is_run_byte first) refl refl
   where
     by_tests : (separates runs : Bool) → is_separator first ≡ separates → is_run_byte first ≡ runs → (first_token position first others ≡ []) ⊎ ((token : Token) × (first_token position first others ≡ (token, position) ∷ []))

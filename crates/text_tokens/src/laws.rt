@@ -1,5 +1,5 @@
 // Laws of the definition, and examples of it: no body runs.
-ghost use Rattle.std.specs.Prelude.{◌≡◌, ◌≢◌, ◌<◌, ◌≤◌, ℕ, ℤ, false, List, [], ◌∷◌, ◌++◌, length, codes, replicate, pos, negsuc, FitsSigned, IsTrue};
+ghost use Rattle.std.specs.Prelude.{◌≡◌, ◌≢◌, ◌+◌, ◌<◌, ◌≤◌, ℕ, ℤ, false, List, [], ◌∷◌, ◌++◌, length, codes, replicate, pos, negsuc, FitsSigned, IsTrue};
 ghost use Rattle.std.specs.Fmt.{signed_decimal};
 ghost use Rattle.std.specs.Int.{w64};
 ghost use Rattle.std.specs.List.{All, AllPairs, list_all};
@@ -97,6 +97,11 @@ pub fn tokens_are_given_in_order()
     ensures end { (old new : Remaining) (given : TextToken × Position) → GivesNext old given new → given.0 ≡ Token.End
         → (tokens old.position old.bytes ≡ given ∷ []) × (tokens new.position new.bytes ≡ given ∷ [])
         × (length new.bytes ≤ length old.bytes) }
+{}
+
+/// A text has at most as many tokens as bytes, and its end.
+pub fn tokens_are_few()
+    ensures { (position : Position) (bytes : List ℕ) → length (tokens position bytes) ≤ 1 + length bytes }
 {}
 
 /// The tokens of a text are those of its front and those of its back, where no comment and no run

@@ -153,7 +153,8 @@ impl<'a> Scanner<'a> {
 
     /// What `next_token` gives, with a count of the bytes that it looks at: at most ten for each
     /// byte that a call takes, so at most ten times the bytes of a text from its start to its end.
-    /// Every look is counted, since the scanner has its bytes by `Text` alone.
+    /// The scanner has its bytes by `Text` alone, which counts in the `Looks` that it is given; that no
+    /// other is made on the way is read off these bodies, and not proved.
     #[tactic(auto, using(crate::proofs::TokenLemmas::following_more, crate::proofs::TokenLemmas::takes_bytes))]
     pub fn next_counted<L: Ledger>(&mut self, looks: &mut Looks<L>) -> (Token, Position)
         ensures token { GivesNext self.old result self.new }
@@ -222,87 +223,4 @@ fn number_uncounted<L: Ledger>(scanner: &mut Scanner<'_>, blank: Blank) -> Optio
 {
     let mut looks = Looks::<L>::new(blank);
     scanner.next_number_counted(&mut looks)
-}
-
-#[cfg(test)]
-mod tests {
-    use super::*;
-    use std::alloc::AllocError;
-    use std::process::Abort;
-
-    fn kind(token: &Token) -> &'static str {
-        match token {
-            Token::Word(_) => "word",
-            Token::LongWord => "long word",
-            Token::Number(_) => "number",
-            Token::OutOfRange => "number out of range",
-            Token::Sign(_) => "sign",
-            Token::Malformed => "malformed",
-            Token::End => "end",
-        }
-    }
-
-    /// Scans a text that has this many tokens of one kind.
-    fn scan(rt: &impl Abort, text: &[u8], want: &str, count: usize, end: Position) {
-        assert!(rt; text.len() == 1048576, "{} bytes of {want}", text.len());
-        let mut scanner = Scanner::new(text);
-        for _ in 0..count {
-            let (token, _) = scanner.next_token();
-            assert_eq!(rt; kind(&token), want);
-        }
-        for _ in 0..2 {
-            let (token, position) = scanner.next_token();
-            assert_eq!(rt; kind(&token), "end", "after {count} of {want}");
-            assert_eq!(rt; position, end, "at the end of {want}");
-        }
-    }
-
-    #[test]
-    fn scans_a_megabyte_of_each_kind(rt: HostRuntime) -> Result<(), AllocError> {
-        for (unit, want, count, line, column) in [
-            ("a", "long word", 1, 1, 1048577),
-            ("7", "number out of range", 1, 1, 1048577),
-            ("0", "number", 1, 1, 1048577),
-            ("-", "malformed", 1, 1, 1048577),
-            ("a ", "word", 524288, 1, 1048577),
-            ("7\n", "number", 524288, 524289, 1),
-            ("x\r", "word", 524288, 1, 1048577),
-            ("<", "sign", 1048576, 1, 1048577),
-            ("é", "malformed", 1048576, 1, 1048577),
-            ("\t", "blank", 0, 1, 1048577),
-            ("\n", "line end", 0, 1048577, 1),
-            ("#", "comment", 0, 1, 1048577),
-            ("#\n", "comment", 0, 524289, 1),
-        ] {
-            let mut text = Vec::new(rt.alloc());
-            for _ in 0..1048576 / unit.len().max(1) {
-                text.extend_from_slice(unit.as_bytes())?;
-            }
-            scan(&rt, text.as_slice(), want, count, Position { line, column });
-        }
-        Ok(())
-    }
-
-    #[test]
-    fn numbers_are_taken_as_long_as_they_come(rt: HostRuntime) {
-        let mut scanner = Scanner::new(b"7 -0090\n\t# 8\n -9223372036854775808 12-".as_slice());
-        for (number, line, column) in [(7, 1, 1), (-90, 1, 3), (i64::MIN, 3, 2)] {
-            let Some((found, position)) = scanner.next_number() else {
-                assert!(rt; false, "{number} comes next");
-                return;
-            };
-            assert_eq!(rt; found, number);
-            assert_eq!(rt; position, Position { line, column });
-        }
-        assert!(rt; scanner.next_number().is_none(), "12- is no number");
-        let (token, position) = scanner.next_token();
-        assert_eq!(rt; kind(&token), "malformed");
-        assert_eq!(rt;
-            position,
-            Position {
-                line: 3,
-                column: 23
-            }
-        );
-    }
 }

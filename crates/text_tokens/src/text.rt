@@ -7,8 +7,8 @@ use shapes_core::Name;
 use std::marker::Model;
 use std::sync::ledger::Ledger;
 
-/// A text, or a part of it. Only `at` and `name` tell what its bytes are, and they count: so no byte is looked at
-/// uncounted outside this file.
+/// A text, or a part of it. Only `at` and `name` tell what its bytes are, and they count in the `Looks` that they are
+/// given.
 #[derive(Drop)]
 pub(crate) struct Text<'a> {
     bytes: &'a [u8],

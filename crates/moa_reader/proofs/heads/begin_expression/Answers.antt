@@ -20,5 +20,5 @@ returns-clause-refused c =
     (λ error. (depth : ℕ) (wants : List Want) → (depth == 129) ≡ not c.args.is_shallow → is_stuck wants ≡ false
     → IsRefusedWith (Want.AnExpr depth ∷ wants) (all c.args.source.now) error)
     (λ error refused depth wants e free.
-    rest_refused c.args.source.now c.advance.new.self first error c.lexeme-lexeme.ensures h c.advance.ensures refused depth wants (e ∙ ap not shallow) free)
+    rest_refused c.args.source.now c.advance.new.self first error c.lexeme-lexeme.ensures h c.advance.ensures.value refused depth wants (e ∙ ap not shallow) free)
     c.rest.ensures.refused

@@ -6,8 +6,8 @@ use Rattle.nest_build.specs.Standing.{tree_in}
 use Rattle.nest_build.proofs.StandLemmas.{looped, walked-behind}
 use Rattle.nest_build.proofs.nesting.around.Goals as goal
 
-pub add-requires : goal.add-requires
-add-requires c =
+pub add-requires-clause-inner : goal.add-requires-clause-inner
+add-requires-clause-inner c =
     (walked-behind c.args.lists.now c.args.inside.items c.push_walks.new.steps.items (walks (spots_of c.args.stands.now) c.args.axis.var (pos 1))
     (tree_in c.args.lists.now c.args.inside.items) c.in_ok-push_walks.ensures (record { named = c.requires; same = refl })).named
 

@@ -1,13 +1,22 @@
-use Rattle.std.proofs.Common.{◌≡◌, ap, map, subst, ◌∙◌}
+use Rattle.std.specs.List.{AllByRecursion}
+use Rattle.std.proofs.Common.{◌≡◌, ap, map, sym, subst, ◌∙◌}
 use Rattle.std.proofs.lemmas.Result.{IfOk-weaker}
 use Rattle.loop_ir.specs.Pool.{tree as tree_of_nest}
 use Rattle.moa_tree.specs.Canonical.{canonical}
 use Rattle.moa_tree.specs.Pools.{tree_of}
 use Rattle.moa_tree.specs.Readings.{Reads}
 use Rattle.nest_jobs.specs.Leads.{nests}
+use Rattle.register_map.specs.Fits.{NamesFew}
 use Rattle.shape_check.specs.Layout.{areas}
-use Rattle.psi_compile.proofs.CompileLemmas.{Laws, all_assembled, as-many, few_lines, few_spill, few_steps, given-too, ready}
+use Rattle.psi_compile.proofs.CompileLemmas.{Laws, all_assembled, as-many, few_lines, few_spill, few_steps, fit, given-too}
 use Rattle.psi_compile.proofs.compiler.assembly_of.Goals as goal
+
+pub homes_of-requires : goal.homes_of-requires
+homes_of-requires c =
+    let tree = tree_of c.args.checked.now.pools in
+    let reads = subst (λ pools. Reads (canonical (tree_of pools)) (tree_of pools)) c.program.ensures.value c.statements-statements.ensures.program.reads in
+    let same : map tree_of_nest c.deref.result.now ≡ nests tree.statements = ap (map tree_of_nest) c.deref.ensures.value ∙ c.in_ok-nests.ensures in
+    subst (AllByRecursion NamesFew) (sym same) (c.nests_are_small.ensures.names (canonical tree) tree reads c.program.ensures.checked.accepted c.requires)
 
 pub emit-requires : goal.emit-requires
 emit-requires c =
@@ -35,7 +44,7 @@ emit-requires c =
     c.deref-2.ensures.value c.deref-3.ensures.value c.in_ok-homes.ensures in
     record {
       counted = as-many c.deref-2.result.now homes given;
-      ready = ready laws (canonical tree) tree reads c.program.ensures.checked.accepted c.requires trees same homes given;
+      fit = fit laws (canonical tree) tree reads c.program.ensures.checked.accepted c.requires trees same homes given;
       lines = few_lines laws (canonical tree) tree reads c.program.ensures.checked.accepted c.requires trees same homes given;
       spill = few_spill laws (canonical tree) tree reads c.program.ensures.checked.accepted c.requires trees same homes given;
       steps = few_steps laws (canonical tree) tree reads c.program.ensures.checked.accepted c.requires trees same homes given;

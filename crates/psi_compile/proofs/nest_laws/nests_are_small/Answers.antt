@@ -8,7 +8,7 @@ use Rattle.psi_rules.specs.Jobs.{forms}
 use Rattle.nest_jobs.specs.Leads.{nests}
 use Rattle.nest_jobs.specs.Sizes.{form_sizes, form_works}
 use Rattle.psi_compile.proofs.NestHomeLemmas.{prices-low}
-use Rattle.psi_compile.proofs.NestLemmas.{all-lines, all-spill, all-steps, lines-below, spill-below, steps-below}
+use Rattle.psi_compile.proofs.NestLemmas.{all-few, all-lines, all-spill, all-steps, lines-below, spill-below, steps-below}
 use Rattle.psi_compile.proofs.NestProgramLemmas.{program-known, there}
 use Rattle.psi_compile.proofs.nest_laws.nests_are_small.Goals as goal
 
@@ -35,6 +35,20 @@ returns-clause-lines c = λ text tree homes reads accepted plain assigned.
     (all-lines (areas items) (words items) (prices-low c.constants_are_short.ensures.most c.constants_are_short.ensures.few) known.laid
     known.few c.nests_cost_little.ensures.lines (forms items) (given [] items) (nests items) homes known.nested assigned)
     (c.forms_are_small.ensures.sizes items plain) (omega (arith, c.outputs_have_size.ensures.size items plain known.output))
+
+pub returns-clause-names : goal.returns-clause-names
+returns-clause-names c = λ text tree reads accepted plain.
+    let items = tree.statements in
+    let known = program-known (record {
+      written = c.reads_again.ensures.writable;
+      nested = c.nests_are_of_forms.ensures;
+      limits = c.verdicts_are_shapes.ensures.limits;
+      laid = c.areas_are_laid_out.ensures;
+    }) text tree reads accepted plain in
+    let found = there (verdict_of items) accepted in
+    let small = (c.verdicts_are_shapes.ensures.limits items found.0 found.1).0 in
+    all-few c.nests_name_few.ensures (areas items) (forms items) (given [] items) (nests items) known.nested
+    (omega (arith, c.forms_are_small.ensures.sizes items plain, small))
 
 pub returns-clause-spill : goal.returns-clause-spill
 returns-clause-spill c = λ text tree homes reads accepted plain assigned.

@@ -14,5 +14,5 @@ loop-job-preserved c =
 pub returns : goal.returns
 returns c =
     let checking = c.args.checked.now in
-    let all : length checking.jobs ≤ c.loop-job.job = omega (arith, c.in_ok-count.ensures, c.loop-job-test.false) in
+    let all : length checking.jobs ≤ c.loop-job.job = omega (arith, c.job_count-count.ensures, c.loop-job-test.false) in
     c.loop-job.invariant ∙ all-made checking c.loop-job.job c.program-program.ensures.checked all

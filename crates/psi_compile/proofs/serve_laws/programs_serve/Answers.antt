@@ -16,6 +16,7 @@ use Rattle.rv_line.specs.declared.line.Line.{Line}
 use Rattle.rv_steps.specs.Good.{IsStart}
 use Rattle.rv_steps.specs.Machine.{Config}
 use Rattle.psi_compile.specs.Assigned.{AreAssigned}
+use Rattle.psi_compile.proofs.NestLemmas.{homed-of}
 use Rattle.psi_compile.proofs.ServeInputLemmas.{differ-pairs, inputs-held}
 use Rattle.psi_compile.proofs.ServeLemmas.{after_all, all-built, exact-steps, inputs, nests-low, ok-shapes, opening, performed, serves}
 use Rattle.psi_compile.proofs.ServeLemmas.{words-long}
@@ -60,7 +61,7 @@ runs c text tree homes header lines base d read accepted plain assigned spilled 
     omega (
       arith,
       many,
-      c.programs_cost.ensures.lines homed header.spill ready small,
+      c.programs_cost.ensures.lines homed header.spill (homed-of header.spill homed ready) small,
       c.nests_are_small.ensures.lines text tree homes read accepted plain assigned,
       size,
     ) in

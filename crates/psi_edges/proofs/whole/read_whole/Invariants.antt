@@ -1,4 +1,5 @@
 use Rattle.std.proofs.Common.{◌≡◌, ◌-◌, ◌^◌, ◌<◌, ◌≤◌, vec_len}
+use Rattle.psi_edges.specs.Calls.{AreAsked}
 use Rattle.psi_edges.specs.Causes.{raised}
 use Rattle.psi_edges.proofs.FrontLemmas.{IsFront}
 use Rattle.psi_edges.proofs.whole.read_whole.Given as goal
@@ -10,6 +11,7 @@ invariant-loop-shelf g l =
     record {
       within : vec_len l.bytes ≤ l.most;
       front : IsFront (shelf.files l.fn.shelf) l.name l.bytes.items;
+      asked : AreAsked shelf.takes l.most l.fn.shelf (vec_len l.bytes) l.shelf;
       given : raised (shelf.given l.shelf) 0 ≡ raised (shelf.given l.fn.shelf) (vec_len l.bytes);
       bounded : 0 < vec_len l.bytes → shelf.given l.shelf ≤ 2 ^ 64 - 1;
       more_given : shelf.given l.fn.shelf ≤ shelf.given l.shelf;

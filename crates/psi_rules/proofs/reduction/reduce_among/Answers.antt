@@ -1,5 +1,5 @@
 use Rattle.std.specs.Prelude.{[], Some}
-use Rattle.std.proofs.Common.{ap, subst, sym, ◌∙◌}
+use Rattle.std.proofs.Common.{ap, arith, subst, sym, ◌∙◌}
 use Rattle.moa_tree.specs.Pools.{IsProgram}
 use Rattle.shape_check.specs.Judged.{items_in}
 use Rattle.shape_check.specs.Statements.{verdict_of}
@@ -19,6 +19,17 @@ use Rattle.psi_rules.proofs.reduction.reduce_among.Goals as goal
 pub shape_of-shape-requires : goal.shape_of-shape-requires
 shape_of-shape-requires c = (c.job_at-this.ensures.facts c.args.tables.now c.requires.tables).shaped.there
 
+pub first_scan-scan-requires : goal.first_scan-scan-requires
+first_scan-scan-requires c =
+    let checking = c.args.checked.now in
+    let tables = c.args.tables.now in
+    let job = c.job_at-this.result in
+    let facts = c.job_at-this.ensures.facts tables c.requires.tables in
+    let good = c.tasks_are_good.ensures c.args.job facts.owner facts.owned_here in
+    let same = ap (λ s. first_scan (scan_at tables s) job.area job.fold) c.owner_at-statement.ensures ∙ facts.scan in
+    let areas = good.areas in
+    omega (arith, areas, same)
+
 pub terms_of-requires : goal.terms_of-requires
 terms_of-requires c = (c.job_at-this.ensures.facts c.args.tables.now c.requires.tables).shaped.there
 
@@ -34,8 +45,8 @@ new-requires c =
     let ok = accepted-shapes (verdict_of items) c.program.ensures.checked.accepted in
     let built = c.programs_are_built.ensures checking.pools program in
     let found = has-form c.jobs_are_tasks.ensures.forms c.jobs_are_tasks.ensures.shapes checking tables c.args.job job
-    (c.job_at-this.ensures.facts tables c.requires.tables) c.requires.tables.meant terms c.in_ok-scan.scan
-    (c.in_ok-scan.ensures ∙ ap (λ s. first_scan (scan_at tables s) job.area job.fold) c.owner_at-statement.ensures)
+    (c.job_at-this.ensures.facts tables c.requires.tables) c.requires.tables.meant terms c.first_scan-scan.result
+    (c.first_scan-scan.ensures ∙ ap (λ s. first_scan (scan_at tables s) job.area job.fold) c.owner_at-statement.ensures)
     (λ names ready. c.in_ok-terms.ensures.form names
     (subst (λ s. IsReady checking tables s names job.node) (sym c.owner_at-statement.ensures) ready))
     shape c.shape_of-shape.ensures c.extents-extents.ensures.shape c.in_ok-terms.ensures.pool in
@@ -54,19 +65,19 @@ returns-clause-reduced c =
     let job = c.job_at-this.result in
     let terms = c.in_ok-terms.terms.items in
     let facts = c.job_at-this.ensures.facts tables c.requires.tables in
-    let placed = c.in_ok-scan.ensures ∙ ap (λ s. first_scan (scan_at tables s) job.area job.fold) c.owner_at-statement.ensures in
+    let placed = c.first_scan-scan.ensures ∙ ap (λ s. first_scan (scan_at tables s) job.area job.fold) c.owner_at-statement.ensures in
     let formed = λ (names : Names) (ready : IsReady checking tables (owner_at tables c.args.job) names job.node). c.in_ok-terms.ensures.form names
     (subst (λ s. IsReady checking tables s names job.node) (sym c.owner_at-statement.ensures) ready) in
     let forms = c.jobs_are_tasks.ensures.forms in
     let shapes = c.jobs_are_tasks.ensures.shapes in
     subst (IsReduced checking c.args.job) (sym c.new.ensures) (record {
       job = c.job_at-this.ensures.listed;
-      node = node-here forms shapes checking tables c.args.job job facts c.requires.tables.meant terms c.in_ok-scan.scan placed formed
+      node = node-here forms shapes checking tables c.args.job job facts c.requires.tables.meant terms c.first_scan-scan.result placed formed
           c.jobs_are_tasks.ensures.tasks;
-      shape = shape-here forms shapes checking tables c.args.job job facts c.requires.tables.meant terms c.in_ok-scan.scan placed formed
+      shape = shape-here forms shapes checking tables c.args.job job facts c.requires.tables.meant terms c.first_scan-scan.result placed formed
           c.shape_of-shape.result c.shape_of-shape.ensures;
       whole = c.whole.ensures;
-      form = form-here forms shapes checking tables c.args.job job facts c.requires.tables.meant terms c.in_ok-scan.scan placed formed;
+      form = form-here forms shapes checking tables c.args.job job facts c.requires.tables.meant terms c.first_scan-scan.result placed formed;
     })
 
 pub returns-clause-meaning : goal.returns-clause-meaning

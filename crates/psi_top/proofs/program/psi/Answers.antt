@@ -25,6 +25,9 @@ returns-clause-quiet g c = lemmas.out_unchanged _ _ _ _ _ _ _ _ (returns-clause-
 pub returns-clause-puts_counted : goal.returns-clause-puts_counted
 returns-clause-puts_counted g c = lemmas.puts_same _ _ _ _ _ _ _ _ (returns-clause-answered g c)
 
+pub returns-clause-unreadable : goal.returns-clause-unreadable
+returns-clause-unreadable g c = let done = returns-clause-answered g c in lemmas.two_unreadable _ _ _ _ _ _ _ done.0 _ done.1 done.2
+
 pub returns-clause-reads_counted : goal.returns-clause-reads_counted
 returns-clause-reads_counted g c = let done = returns-clause-answered g c in lemmas.reads_same _ _ _ _ _ _ _ done.0 _ done.1 done.2
 

@@ -7,8 +7,16 @@ use Rattle.register_map.specs.Assigned.{given_to}
 use Rattle.register_map.specs.declared.home.Home.TheVariants as home
 use Rattle.register_map.specs.Fits.{IsFit, IsRanked}
 use Rattle.register_map.specs.Homes.{code, home_of}
-use Rattle.register_map.proofs.HomesLemmas.{homed, homes-fit, homes-low, homes-ranked, weighed-codes}
+use Rattle.register_map.proofs.HomesLemmas.{codes-low, homed, homes-fit, homes-low, homes-ranked, weighed-codes}
 use Rattle.register_map.proofs.assignment.assign.Goals as goal
+
+pub homes_of-requires : goal.homes_of-requires
+homes_of-requires c =
+    let steps = tree c.args.nest.now in
+    let codes = c.deref.result.now in
+    let are = weighed-codes steps c.in_ok-weights.weights.entries codes _ c.deref.ensures.value c.in_ok-codes.ensures.rising
+    c.in_ok-codes.ensures.all c.in_ok-weights.ensures in
+    record { rising = are.rising; low = codes-low steps c.deref-2.result.now codes are c.requires }
 
 pub returns-clause-fits : goal.returns-clause-fits
 returns-clause-fits c =

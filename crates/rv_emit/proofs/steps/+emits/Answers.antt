@@ -1,17 +1,18 @@
-use Rattle.std.specs.Prelude.{◌≡◌, ℕ, ◌+◌, ◌<◌, IfOk, length, pos, take, ℤ}
+use Rattle.std.specs.Prelude.{◌≡◌, ℕ, ◌+◌, ◌<◌, length, pos, ℤ}
 use Rattle.std.proofs.Common.{ap, sym, ◌∙◌, subst, arith, get_or, rules, w64}
 use Rattle.std.proofs.lemmas.Int.{to_z-of_z}
 use Rattle.std.proofs.lemmas.List.{take_all}
-use Rattle.std.proofs.lemmas.Result.{IfOk-weaker}
 use Rattle.loop_ir.specs.declared.step.Step.TheVariants as step
+use Rattle.loop_ir.specs.Kept.{KeepsCounters}
 use Rattle.loop_ir.specs.Pool.{inner_lists, steps_of}
 use Rattle.loop_ir.specs.Running.{Register}
-use Rattle.rv_emit.specs.Emitting.{back, behind, count_lines, emitted, home_at, last_count, lists_of, owed_after, settled, straight, test_lines}
+use Rattle.rv_emit.specs.Emitting.{behind, closing_of, emitted, home_at, lists_of, owed_after, settled, straight, test_lines}
 use Rattle.rv_emit.specs.Moving.{register_of}
-use Rattle.rv_emit.specs.Programs.{Emits, HaveHomes, list_tree, plan_at}
-use Rattle.rv_emit.proofs.EmitLemmas.{emits-added}
+use Rattle.rv_emit.specs.Programs.{Emits, HaveHomes, MayCome, list_tree, plan_at}
+use Rattle.rv_emit.proofs.EmitLemmas.{emits-behind}
 use Rattle.rv_emit.proofs.ListsLemmas.{lists-emitted}
-use Rattle.rv_emit.proofs.NestLemmas.{HasCome, ahead-falls, all-weaker, inner-at, named-at, one-more}
+use Rattle.rv_emit.proofs.NestLemmas.{ahead-falls, all-weaker, counters-at, inner-at, named-at, one-more}
+use Rattle.rv_emit.proofs.RoomLemmas.{room-at, room-made}
 use Rattle.rv_emit.proofs.steps.+emits.Goals as goal
 
 pub emit_choice-returns-clause-emits : goal.emit_choice-returns-clause-emits
@@ -22,14 +23,14 @@ emit_choice-returns-clause-emits t c =
     let test = straight (test_lines plan c.args.owed.now.items c.args.left c.args.below) in
     let register : c.register_of-register.result ≡ register_of 28 (home_at plan (Register c.args.left)) =
     c.register_of-register.ensures ∙ ap (register_of 28) c.register.ensures.home in
-    subst (λ (r : ℕ). IfOk c.add.result (Emits (λ at. behind at test (λ next. lists_of r next one other)) c.args.lines.now.items
-    c.emit_lists.new.lines.items))
+    subst (λ (r : ℕ). Emits (λ at. behind at test (λ next. lists_of r next one other)) c.args.lines.now.items
+    c.emit_lists.new.lines.items (c.in_ok-steps.steps + c.in_ok-more.more))
     register
-    (emits-added c.add.result (λ at. test) (λ next. lists_of c.register_of-register.result next one other) c.args.lines.now.items
+    (emits-behind (λ at. test) (λ next. lists_of c.register_of-register.result next one other) c.args.lines.now.items
     c.emit_test.new.lines.items c.emit_lists.new.lines.items c.in_ok-steps.steps c.in_ok-more.more
     (subst (λ (n : ℤ). Emits (λ at. straight (test_lines plan c.args.owed.now.items c.args.left n)) c.args.lines.now.items
     c.emit_test.new.lines.items c.in_ok-steps.steps) (to_z-of_z w64 c.args.below c.ranges.below) c.in_ok-steps.ensures.emits)
-    c.in_ok-more.ensures.emits c.add.ensures)
+    c.in_ok-more.ensures.emits)
 
 pub emit_list-emit_step-requires : goal.emit_list-emit_step-requires
 emit_list-emit_step-requires t c =
@@ -45,9 +46,33 @@ emit_list-emit_step-requires t c =
       omega (arith, falls, c.decreases),
       (
         all-weaker (λ inner h. h.1) (inner_lists of) inner,
-        named-at _ (list_tree c.args.site.now) items c.loop-step.step-index d c.loop-step-test.true
-            (subst (HaveHomes c.args.site.now.homes) tree c.requires.homes),
+        (
+          named-at _ (list_tree c.args.site.now) items c.loop-step.step-index d c.loop-step-test.true
+              (subst (HaveHomes c.args.site.now.homes) tree c.requires.homes),
+          (
+            counters-at (list_tree c.args.site.now) items c.loop-step.step-index d c.loop-step-test.true
+                (subst KeepsCounters tree c.requires.counters),
+            room-at (plan_at c.args.site.now) (list_tree c.args.site.now) c.args.owed.now.items items c.loop-step.step-index d
+                c.args.lines.now.items c.loop-step.lines.items c.loop-step.steps c.loop-step.owed.items c.loop-step-test.true
+                c.loop-step.invariant (subst (λ steps. MayCome (emitted (plan_at c.args.site.now) c.args.owed.now.items steps)
+                c.args.lines.now.items) tree c.requires.room),
+          ),
+        ),
       ),
+    )
+
+pub emit_list-overflow_add-steps : goal.emit_list-overflow_add-steps
+emit_list-overflow_add-steps t c =
+    let items = c.list-step-items.result.now in
+    let tree = c.lists_in_order.ensures.trees c.args.site.now.lists c.args.number items c.list-step-items.ensures.kept
+    c.list-step-items.ensures.list in
+    let room = subst (λ steps. MayCome (emitted (plan_at c.args.site.now) c.args.owed.now.items steps) c.args.lines.now.items) tree
+    c.requires.room in
+    omega (
+      arith,
+      room-made (plan_at c.args.site.now) (list_tree c.args.site.now) c.args.owed.now.items items c.loop-step.step-index _
+          c.args.lines.now.items c.loop-step.lines.items c.emit_step.new.lines.items c.loop-step.steps c.in_ok-more.more
+          c.loop-step.owed.items c.loop-step-test.true c.loop-step.invariant room c.in_ok-more.ensures.emits,
     )
 
 pub emit_list-loop-step-preserved : goal.emit_list-loop-step-preserved
@@ -55,11 +80,9 @@ emit_list-loop-step-preserved t c =
     let plan = plan_at c.args.site.now in
     let owed = c.args.owed.now.items in
     let items = c.list-step-items.result.now in
-    let come = one-more plan (list_tree c.args.site.now) owed items c.loop-step.step-index _ c.args.lines.now.items c.loop-step.lines.items
+    one-more plan (list_tree c.args.site.now) owed items c.loop-step.step-index _ c.args.lines.now.items c.loop-step.lines.items
     c.emit_step.new.lines.items c.loop-step.steps c.in_ok-more.more c.loop-step.owed.items c.emit_step.new.owed.items c.loop-step-test.true
-    c.loop-step.invariant c.in_ok-more.ensures.emits c.in_ok-more.ensures.owed in
-    subst (λ (made : ℕ). HasCome plan (list_tree c.args.site.now) owed (take (c.loop-step.step-index + 1) items) c.args.lines.now.items
-    c.emit_step.new.lines.items made c.emit_step.new.owed.items) (sym c.in_ok-steps.ensures) come
+    c.loop-step.invariant c.in_ok-more.ensures.emits c.in_ok-more.ensures.owed
 
 pub emit_list-returns-clause-emits : goal.emit_list-returns-clause-emits
 emit_list-returns-clause-emits t c =
@@ -87,16 +110,15 @@ emit_lists-returns-clause-emits t c =
     let other = settled plan (list_tree c.args.site.now c.args.no) in
     let made = lists-emitted c.args.register one other c.args.lines.now.items c.push_branch.new.lines.items c.push_jump.new.lines.items
     c.emit_settled.new.lines.items c.push_jump-2.new.lines.items c.emit_settled-2.new.lines.items c.set_jump.new.lines.items
-    c.set_jump-2.new.lines.items c.in_ok-over.over c.len-first_jump.result c.len-second_jump.result c.in_ok-middle.middle c.in_ok-end.end
+    c.set_jump-2.new.lines.items c.line_ahead-over.result c.len-first_jump.result c.len-second_jump.result c.line_ahead-middle.result
+    c.line_ahead-end.result
     c.in_ok-one.one c.in_ok-other.other
-    (c.in_ok-over.ensures ∙ ap (λ list. length list + 2) c.deref.ensures.value) c.in_ok-push_branch.ensures (search rules)
+    (c.line_ahead-over.ensures ∙ ap (λ list. length list + 2) c.deref.ensures.value) c.in_ok-push_branch.ensures (search rules)
     c.in_ok-push_jump.ensures c.in_ok-one.ensures.emits (search rules)
-    c.in_ok-push_jump-2.ensures (c.in_ok-middle.ensures ∙ ap (λ list. length list + 0) c.deref-2.ensures.value)
-    c.in_ok-other.ensures.emits (c.in_ok-end.ensures ∙ ap (λ list. length list + 0) c.deref-3.ensures.value) c.set_jump.ensures
+    c.in_ok-push_jump-2.ensures (c.line_ahead-middle.ensures ∙ ap (λ list. length list + 0) c.deref-2.ensures.value)
+    c.in_ok-other.ensures.emits (c.line_ahead-end.ensures ∙ ap (λ list. length list + 0) c.deref-3.ensures.value) c.set_jump.ensures
     c.set_jump-2.ensures in
-    IfOk-weaker c.add.result (λ (number : ℕ). number ≡ 2 + c.max.result)
-    (Emits (λ at. lists_of c.args.register at one other) c.args.lines.now.items c.set_jump-2.new.lines.items)
-    (λ (number : ℕ) e. (made.0, e ∙ ap (λ (n : ℕ). 2 + n) c.max.ensures ∙ made.1)) c.add.ensures
+    (made.0, ap (λ (n : ℕ). 2 + n) c.max.ensures ∙ made.1)
 
 pub emit_turn-returns-clause-emits : goal.emit_turn-returns-clause-emits
 emit_turn-returns-clause-emits t c =
@@ -104,9 +126,11 @@ emit_turn-returns-clause-emits t c =
     let body = settled plan (list_tree c.args.site.now c.args.body) in
     let old = c.args.lines.now.items in
     let new = c.emit_closing.new.lines.items in
-    let closing = λ (top : ℕ) (next : ℕ). behind next (straight (count_lines plan c.args.counter c.args.turns))
-    (back top (register_of 30 (home_at plan (Register c.args.counter))) (last_count plan c.args.counter)) in
-    let top : c.in_ok-top.top ≡ length old = omega (arith, c.in_ok-top.ensures ∙ ap (λ list. length list + 0) c.deref.ensures.value) in
-    subst (λ (top : ℕ). IfOk c.add.result (Emits (λ at. behind at (body at) (closing top)) old new)) top
-    (emits-added c.add.result body (closing c.in_ok-top.top) old c.emit_settled.new.lines.items new c.in_ok-steps.steps c.in_ok-more.more
-    c.in_ok-steps.ensures.emits c.in_ok-more.ensures c.add.ensures)
+    let closing = closing_of plan c.args.counter c.args.turns in
+    let steps = c.in_ok-steps.steps in
+    let more = c.in_ok-more.more in
+    let top : c.line_ahead-top.result ≡ length old =
+    omega (arith, c.line_ahead-top.ensures ∙ ap (λ list. length list + 0) c.deref.ensures.value) in
+    subst (λ (top : ℕ). Emits (λ at. behind at (body at) (closing top)) old new (steps + more)) top
+    (emits-behind body (closing c.line_ahead-top.result) old c.emit_settled.new.lines.items new steps more c.in_ok-steps.ensures.emits
+    c.in_ok-more.ensures)

@@ -1,13 +1,14 @@
-use Rattle.std.proofs.Common.{◌≡◌, ◌<◌, ◌≤◌, pos, ◌+ℤ◌, length, slice_index_or, slice_set, to_z, of_z, w64, sym, ap, subst, ◌∙◌, arith}
+use Rattle.std.proofs.Common.{◌≡◌, ◌<◌, ◌≤◌, ◌^◌, ℤ, pos, ◌+ℤ◌, length, slice_index_or, slice_set, to_z, of_z, w64, sym, ap, ap₂, subst, ◌∙◌, arith}
 use Rattle.std.specs.List.{insert}
-use Rattle.std.proofs.lemmas.Int.{ints, to_z-of_z}
+use Rattle.std.proofs.lemmas.Int.{fits_signed_from_abs, ints, to_z-of_z}
 use Rattle.std.proofs.lemmas.List.{get_or_read}
-use Rattle.stride_form.proofs.StrideLemmas.{AreSmaller, stride-new, stride-there, var_at}
+use Rattle.shapes_core.specs.Limits.{greatest_extent}
+use Rattle.stride_form.proofs.StrideLemmas.{AreSmaller, near-at, sum-near, stride-new, stride-there, var_at}
 use Rattle.stride_form.proofs.collect.add_stride.Goals as goal
 use Rattle.stride_form.proofs.collect.add_stride.Goals.{else-place-len-via-then-place-len+else-index-var, else-place-len-via-else-place-len}
 
-pub returns-in-Some : goal.returns-in-Some
-returns-in-Some c =
+pub returns-then-index-var : goal.returns-then-index-var
+returns-then-index-var c =
     let steps = c.args.strides.now.items in
     let place = c.place-place.result in
     let within : place < length steps = grind (arith, c.if-place-len.true, c.len.ensures) in
@@ -17,8 +18,16 @@ returns-in-Some c =
     get_or_read steps _ _ within c.index.ensures (0, pos 0) in
     let there : c.index-then-index-var.result.now ≡ slice_index_or steps place (0, pos 0) =
     get_or_read steps _ _ within c.index-then-index-var.ensures (0, pos 0) in
-    let sum : to_z w64 (of_z w64 c.in-Some.sum) ≡ (slice_index_or steps place (0, pos 0)).1 +ℤ c.args.stride =
-    grind (arith, ints, to_z-of_z, c.in-Some.ensures, there, c.ranges) in
+    let before : ℤ = (slice_index_or steps place (0, pos 0)).1 in
+    let near = near-at (2 ^ 62) place steps within c.requires.near in
+    let fits = fits_signed_from_abs w64 (before +ℤ c.args.stride)
+    (omega (arith, sum-near (2 ^ 62) greatest_extent before c.args.stride near c.requires.stride)) in
+    let sum : to_z w64 (of_z w64 (to_z w64 (of_z w64 c.index-then-index-var.result.now.1) +ℤ to_z w64 (of_z w64 c.args.stride)))
+    ≡ before +ℤ c.args.stride =
+    ap₂ (λ a b. to_z w64 (of_z w64 (a +ℤ b)))
+    (ap (λ pair. to_z w64 (of_z w64 pair.1)) there ∙ to_z-of_z w64 before (fits_signed_from_abs w64 before (omega (arith, near))))
+    (to_z-of_z w64 c.args.stride c.ranges.stride)
+    ∙ to_z-of_z w64 (before +ℤ c.args.stride) fits in
     let same : var_at steps place ≡ c.args.var = grind (arith, here, c.if-index-var.true) in
     ap (λ z. slice_set steps place (c.args.var, z)) sum
     ∙ sym (stride-there c.args.var c.args.stride steps place within smaller same)

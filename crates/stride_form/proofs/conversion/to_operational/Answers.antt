@@ -10,4 +10,4 @@ new-requires c =
 
 pub returns-clause-tree : goal.returns-clause-tree
 returns-clause-tree c =
-    ap (λ form. op_form_in form.terms) c.new.ensures ∙ ap op_form_in c.in_ok-terms.ensures.made ∙ tree-map c.args.normal.now.terms
+    ap (λ form. op_form_in form.terms) c.new.ensures ∙ ap op_form_in c.in_ok-terms.ensures.made ∙ tree-map c.args.normal.now c.op_terms.ensures.formed

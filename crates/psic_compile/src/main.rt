@@ -1,9 +1,0 @@
-// The program, with a file that is compiled.
-#![tactic(auto)]
-
-use psi_top::run;
-use std::process::ExitCode;
-
-fn main(rt: HostRuntime) -> ExitCode {
-    run(&rt, rt.stdout(), rt.stderr())
-}
