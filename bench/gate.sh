@@ -24,8 +24,8 @@ look() {
             *" --crate-name "*) ;;
             *) continue ;;
         esac
-        case $args in
-            *" --incremental "*) kind=edits ;;
+        case "$(readlink "/proc/$pid/cwd") $args" in
+            */rt-edit-* | *" --incremental "*) kind=edits ;;
             *" --test "*) kind=tests ;;
             *" --crate-checked "*) kind=programs ;;
             *) kind=proof ;;
