@@ -212,8 +212,8 @@ open_list roots lists old new values list added start end h =
 
 -- where nothing is left without use
 pub closed_program : (pools : Pools) → IsOpen [] [] pools → Reads (canonical (tree_of pools)) (tree_of pools)
-    → length pools.nodes ≤ most_items → length pools.numbers ≤ most_items → length pools.statements ≤ most_items → IsProgram pools
-closed_program pools h reads nodes numbers statements = record {
+    → length pools.nodes + length pools.numbers + length pools.statements ≤ most_items → IsProgram pools
+closed_program pools h reads few = record {
   placed = h.placed;
   ordered = h.ordered;
   lists_there = h.lists_there;
@@ -222,7 +222,5 @@ closed_program pools h reads nodes numbers statements = record {
   each_once = h.each_once;
   lists_apart = h.lists_apart;
   reads = reads;
-  few_nodes = nodes;
-  few_numbers = numbers;
-  few_statements = statements;
+  few = few;
 }

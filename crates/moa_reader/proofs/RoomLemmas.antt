@@ -1,5 +1,5 @@
 -- What is built when something is added, and that each list is part of it.
-use Rattle.std.specs.Prelude.{◌≡◌, ◌+◌, ◌≤◌, ℤ, [], ◌∷◌, length}
+use Rattle.std.specs.Prelude.{◌≡◌, ◌+◌, ℤ, [], ◌∷◌, length}
 use Rattle.std.proofs.Common.{refl, arith}
 use Rattle.std.proofs.lemmas.List.{length-append}
 use Rattle.text_tokens.specs.declared.token.Position.{Position}
@@ -26,14 +26,6 @@ pub built_statement : (pools : Pools) (statement : Statement) → built (with_st
 unfolding built
 built_statement pools statement = omega (arith, length-append pools.statements (statement ∷ []))
 
-pub nodes_within : (pools : Pools) → length pools.nodes ≤ built pools
+pub all_built : (pools : Pools) → built pools ≡ length pools.nodes + length pools.numbers + length pools.statements
 unfolding built
-nodes_within pools = omega arith
-
-pub numbers_within : (pools : Pools) → length pools.numbers ≤ built pools
-unfolding built
-numbers_within pools = omega arith
-
-pub statements_within : (pools : Pools) → length pools.statements ≤ built pools
-unfolding built
-statements_within pools = omega arith
+all_built pools = refl

@@ -26,7 +26,7 @@ pub(crate) struct Builder {
 }
 
 impl Model for Builder {
-    ghost use Rattle.std.specs.Prelude.{◌≤◌, ◌^◌, length};
+    ghost use Rattle.std.specs.Prelude.{◌+◌, ◌≤◌, length};
     ghost use Rattle.shapes_core.specs.Limits.{most_items};
     ghost use Rattle.moa_tree.specs.Pools.{Pools};
 
@@ -34,7 +34,7 @@ impl Model for Builder {
 
     ghost view = { λ b. record { version = b.version; nodes = b.nodes.items; positions = b.positions.items; numbers = b.numbers.items; statements = b.statements.items } };
 
-    ghost invariant = { λ b. (length b.nodes.items ≤ most_items) × (length b.numbers.items ≤ most_items) × (length b.statements.items ≤ most_items) };
+    ghost invariant = { λ b. length b.nodes.items + length b.numbers.items + length b.statements.items ≤ most_items };
 }
 
 impl Builder {

@@ -54,7 +54,5 @@ small_is_program law = record {
     record { built = tt; spelled = (tt, (refl, (record { sfits = omega arith }, tt))) },
     (record { built = tt; spelled = (tt, (refl, (tt, (tt, (tt, (record { sfits = omega arith }, (tt, (refl, tt)))))))) }, tt),
   ) refl;
-  few_nodes = omega arith;
-  few_numbers = omega arith;
-  few_statements = omega arith;
+  few = omega arith;
 }

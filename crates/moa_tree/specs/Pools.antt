@@ -77,6 +77,4 @@ pub record IsProgram (pools : Pools) : Type 0 where
   pub each_once : (number : ℕ) → number < length pools.nodes → count_by (λ other. other == number) (references pools) ≡ 1
   pub lists_apart : (place : ℕ) → count_by (λ list. covers list place) (all_lists pools) ≤ 1
   pub reads : Reads (canonical (tree_of pools)) (tree_of pools)
-  pub few_nodes : length pools.nodes ≤ most_items
-  pub few_numbers : length pools.numbers ≤ most_items
-  pub few_statements : length pools.statements ≤ most_items
+  pub few : length pools.nodes + length pools.numbers + length pools.statements ≤ most_items

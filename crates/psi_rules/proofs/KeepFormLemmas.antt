@@ -71,22 +71,22 @@ room-fits room x h = omega (arith, h)
 first-more : (x g : ℕ) → (1 + x) * g ≡ g + x * g
 first-more x g = grind arith
 
-room-grown : (room x : ℕ) → HasRoom room (1 + x) → HasRoom (room + greatest_extent) x
+pub room-grown : (room x : ℕ) → HasRoom room (1 + x) → HasRoom (room + greatest_extent) x
 room-grown room x h = omega (arith, h, first-more x greatest_extent)
 
-room-kept : (room x : ℕ) → HasRoom room (1 + x) → HasRoom room x
+pub room-kept : (room x : ℕ) → HasRoom room (1 + x) → HasRoom room x
 room-kept room x h = omega (arith, h, first-more x greatest_extent)
 
 sum-more : (x y g : ℕ) → (1 + (x + y)) * g ≡ g + (x * g + y * g)
 sum-more x y g = grind arith
 
-room-left : (room x y : ℕ) → HasRoom room (1 + (x + y)) → HasRoom room x
+pub room-left : (room x y : ℕ) → HasRoom room (1 + (x + y)) → HasRoom room x
 room-left room x y h = omega (arith, h, sum-more x y greatest_extent)
 
-room-right : (room x y : ℕ) → HasRoom room (1 + (x + y)) → HasRoom room y
+pub room-right : (room x y : ℕ) → HasRoom room (1 + (x + y)) → HasRoom room y
 room-right room x y h = omega (arith, h, sum-more x y greatest_extent)
 
-room-behind : (room x y : ℕ) → HasRoom room (1 + (x + y)) → HasRoom (room + greatest_extent) y
+pub room-behind : (room x y : ℕ) → HasRoom room (1 + (x + y)) → HasRoom (room + greatest_extent) y
 room-behind room x y h = omega (arith, h, sum-more x y greatest_extent)
 
 -- ---- areas

@@ -32,7 +32,7 @@ variables-earlier : (start count next : ℕ) → start + count ≤ next → AreE
 variables-earlier start zero next h = tt
 variables-earlier start (suc count) next h = (omega (arith, h), variables-earlier (start + 1) count next (omega (arith, h)))
 
-variables-within : (known : List ℕ) (start : ℕ) (shape : List ℕ) → ((k : ℕ) → k < length shape → Contains known (start + k))
+pub variables-within : (known : List ℕ) (start : ℕ) (shape : List ℕ) → ((k : ℕ) → k < length shape → Contains known (start + k))
     → AllByRecursion (λ n. 0 < n) shape → AreWithin 0 known (map variable (range_with_len start (length shape))) shape
 variables-within known start [] each some = tt
 variables-within known start (n ∷ shape) each some =
@@ -41,7 +41,7 @@ variables-within known start (n ∷ shape) each some =
     subst (Contains known) e (each (suc k) (omega (arith, below))) in
     ((some.0, subst (Contains known) here (each 0 (omega arith)), omega arith), variables-within known (start + 1) shape next some.1)
 
-in-range : (count k : ℕ) → k < count → Contains (range_with_len 0 count) (0 + k)
+pub in-range : (count k : ℕ) → k < count → Contains (range_with_len 0 count) (0 + k)
 in-range count k below = (k, omega (arith, below, length-range_with_len 0 count), get_or-range_with_len 0 count k (0 + k) below)
 
 -- extents whose product is not 0

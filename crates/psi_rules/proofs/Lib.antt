@@ -2,6 +2,9 @@ mod AreaLemmas
 mod BlockLemmas
 mod CountLemmas
 mod EntryLemmas
+mod FitLemmas
+mod FitPartLemmas
+mod FitTaskLemmas
 mod FoldJobLemmas
 mod FormLemmas
 mod GoodTaskLemmas
@@ -10,6 +13,7 @@ mod JobNodeLemmas
 mod KeepFormLemmas
 mod KeepJobLemmas
 mod KeepTaskLemmas
+mod KnownLemmas
 mod LawLemmas
 mod ListLemmas
 mod LoadFormLemmas

@@ -27,7 +27,7 @@ use Rattle.psi_rules.specs.Jobs.{forms, job_form, task_form}
 use Rattle.psi_rules.specs.Reduced.{JobFacts}
 use Rattle.psi_rules.specs.Rules.{Names, form, shape_in}
 use Rattle.psi_rules.specs.Scopes.{Owned, first_scan, job_shapes, names_at, next_at, owned}
-use Rattle.psi_rules.specs.Tables.{AreMeant, AreTables, IsReady, HasShapes, Tables, owner_at, scan_at}
+use Rattle.psi_rules.specs.Tables.{AreKnown, AreMeant, AreTables, IsReady, HasShapes, Tables, owner_at, scan_at}
 use Rattle.psi_rules.proofs.ListLemmas.{at-mapped, mapped-at, zip-at}
 
 -- ---- a job
@@ -140,7 +140,7 @@ abbrev Shapes : Type 0
 Shapes = (inputs : Lists) (items : List Item) → map (λ array. array.shape) (given inputs items) ≡ job_shapes items
 
 module _ (made : Forms) (shapes : Shapes) (checking : Checking) (tables : Tables) (number : ℕ) (job : Job)
-    (facts : JobFacts checking tables number job) (meant : AreMeant checking tables) (terms : List Term) (scan : ℕ)
+    (facts : JobFacts checking tables number job) (meant : AreMeant checking tables) (known_names : AreKnown checking tables) (terms : List Term) (scan : ℕ)
     (placed : scan ≡ first_scan (scan_at tables (owner_at tables number)) job.area job.fold)
     (built : (names : Names) → IsReady checking tables (owner_at tables number) names job.node
     → form_in terms ≡ job_form (shape_in names (node_tree checking.pools job.node)) (form names scan (node_tree checking.pools job.node))) where
@@ -156,7 +156,7 @@ module _ (made : Forms) (shapes : Shapes) (checking : Checking) (tables : Tables
   ready : IsReady checking tables (owner_at tables number) known job.node
   ready = record {
     nodes = facts.shaped;
-    scope = record { names_before = refl; meant = meant };
+    scope = record { names_before = refl; meant = meant; known = known_names };
   }
 
   by-task : form_in terms ≡ task_form (names_at all owner.statement) owner.task

@@ -1,11 +1,11 @@
 -- The tables of a program are filled, one statement after another.
 use Rattle.std.specs.Prelude.{◌≡◌, ℕ, suc, ◌+◌, ◌<◌, ◌≤◌, ◌⊎◌, Bool, true, false, cond, List, [], ◌∷◌, ◌++◌, drop, length, map, replicate, reverse}
-use Rattle.std.specs.Prelude.{slice_get, slice_index_or, Some}
+use Rattle.std.specs.Prelude.{slice_get, slice_index_or, IsSome, Option, Some}
 use Rattle.std.specs.List.{flat_map}
 use Rattle.std.specs.Map.{lookup}
 use Rattle.std.specs.Str.{bytes_eq}
 use Rattle.std.proofs.Common.{refl, ap, sym, subst, ◌∙◌, arith, inl, inr, append_assoc, drop-cons, length-append}
-use Rattle.std.proofs.lemmas.Bool.{cases_lt}
+use Rattle.std.proofs.lemmas.Bool.{cases_lt, false≢true}
 use Rattle.std.proofs.lemmas.List.{append-nil, get_or_append_left, length-reverse, map-append}
 use Rattle.std.proofs.Math.Seq.{drop-length, get_or-append_seam}
 use Rattle.std.proofs.lemmas.Option.{get_or_from_slice_get, same_Some, slice_get_within}
@@ -89,6 +89,37 @@ found-more name number asked declared (entry ∷ entries) e =
           | inl new ↦ inl new
           | inr old ↦ inr (ap (λ d. cond d (Some entry.1) (lookup (bytes_eq asked) entries)) here ∙ old)
         ]
+
+-- a name that was found is found behind a new one too
+stays-found : (name : List ℕ) (number : ℕ) (asked : List ℕ) (entries : List (List ℕ × ℕ)) → IsSome (lookup (bytes_eq asked) entries)
+    → IsSome (lookup (bytes_eq asked) (insert_entry bytes_eq entries name number))
+stays-found name number asked [] h = absurd (false≢true h)
+stays-found name number asked (entry ∷ entries) h =
+    by (bytes_eq name entry.0) (bytes_eq asked entry.0) refl (stays-found name number asked entries) h
+  where
+    by : (b c : Bool) → bytes_eq asked entry.0 ≡ c
+        → (IsSome (lookup (bytes_eq asked) entries) → IsSome (lookup (bytes_eq asked) (insert_entry bytes_eq entries name number)))
+        → IsSome (cond c (Some entry.1) (lookup (bytes_eq asked) entries))
+        → IsSome (lookup (bytes_eq asked) (cond b ((entry.0, number) ∷ entries) (entry ∷ insert_entry bytes_eq entries name number)))
+    by true true here rest h = subst (λ d. IsSome (cond d (Some number) (lookup (bytes_eq asked) entries))) (sym here) refl
+    by true false here rest h = subst (λ d. IsSome (cond d (Some number) (lookup (bytes_eq asked) entries))) (sym here) h
+    by false true here rest h =
+        subst (λ d. IsSome (cond d (Some entry.1) (lookup (bytes_eq asked) (insert_entry bytes_eq entries name number)))) (sym here) refl
+    by false false here rest h =
+        subst (λ d. IsSome (cond d (Some entry.1) (lookup (bytes_eq asked) (insert_entry bytes_eq entries name number)))) (sym here) (rest h)
+
+-- and so is the new one
+new-found : (name : List ℕ) (number : ℕ) (entries : List (List ℕ × ℕ)) → IsSome (lookup (bytes_eq name) (insert_entry bytes_eq entries name number))
+new-found name number [] =
+    let none : Option ℕ = lookup (bytes_eq name) [] in
+    subst (λ d. IsSome (cond d (Some number) none)) (sym ((bytes_eq-Decides name name).1 refl)) refl
+new-found name number (entry ∷ entries) = by (bytes_eq name entry.0) refl (new-found name number entries)
+  where
+    by : (b : Bool) → bytes_eq name entry.0 ≡ b → IsSome (lookup (bytes_eq name) (insert_entry bytes_eq entries name number))
+        → IsSome (lookup (bytes_eq name) (cond b ((entry.0, number) ∷ entries) (entry ∷ insert_entry bytes_eq entries name number)))
+    by true same rest = subst (λ d. IsSome (cond d (Some number) (lookup (bytes_eq name) entries))) (sym same) refl
+    by false same rest =
+        subst (λ d. IsSome (cond d (Some entry.1) (lookup (bytes_eq name) (insert_entry bytes_eq entries name number)))) (sym same) rest
 
 -- ---- rows
 
@@ -188,6 +219,16 @@ module _ (items : List Item) (number : ℕ) (tables : Tables) (next : Next) (ite
     | inr old ↦ let h = filled.names name declared old in (omega (arith, h.0), h.1)
   ]
 
+  each-named : (before : ℕ) (name : List ℕ) → IsDeclared items before name → before < suc number → IsSome (lookup (bytes_eq name) entered.numbers)
+  each-named before name is less = elim (below-or-same before number less) [
+    | inl lower ↦ stays-found (name_of item) number name tables.numbers (filled.all_named before name is lower)
+    | inr same ↦
+        let this : name_of item ≡ name =
+        same_Some (name_of item) name
+        (sym (at-mapped name_of items number item there) ∙ (ap (slice_get (map name_of items)) (sym same) ∙ is)) in
+        subst (λ n. IsSome (lookup (bytes_eq n) entered.numbers)) this (new-found (name_of item) number tables.numbers)
+  ]
+
   each-owner : entered.owners ++ map (λ (o : Owned). o.statement) (owned_from (suc number) (next_after next item) (drop (suc number) items))
       ≡ map (λ (o : Owned). o.statement) (owned items)
   each-owner =
@@ -210,6 +251,7 @@ module _ (items : List Item) (number : ℕ) (tables : Tables) (next : Next) (ite
     ends = longer tables.ends end filled.ends;
     rows = each-row;
     names = each-name;
+    all_named = each-named;
     owners = each-owner;
   }
 

@@ -12,7 +12,7 @@ use Rattle.psi_rules.specs.Rules.{Names, shapes_of}
 use Rattle.psi_rules.specs.Scopes.{Scope, names_at, scope_after, scope_at}
 
 -- a fold over one item more
-fold-more : {X Y : Type 0} (f : Y → X → Y) (y : Y) (xs : List X) (number : ℕ) (x : X) → slice_get xs number ≡ Some x
+pub fold-more : {X Y : Type 0} (f : Y → X → Y) (y : Y) (xs : List X) (number : ℕ) (x : X) → slice_get xs number ≡ Some x
     → fold f y (take (suc number) xs) ≡ f (fold f y (take number xs)) x
 fold-more f y [] number x e = absurd (none-some x e)
 fold-more f y (front ∷ others) zero x e = ap (f y) (same_Some front x e)

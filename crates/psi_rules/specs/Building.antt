@@ -25,6 +25,10 @@ pub record Built : Type 0 where
   pub terms : List Term
   pub next : ℕ
 
+-- how many numbers of terms and variables are used
+abbrev pub used : Built → ℕ
+used pool = length pool.terms + pool.next
+
 -- operands stand before their terms, and the terms are few
 pub record IsPool (terms : List Term) : Type 0 where
   pub ordered : AreOrdered 0 terms

@@ -2,6 +2,7 @@ pub mod Agrees
 pub mod Areas
 pub mod Blocks
 pub mod Building
+pub mod Fitting
 pub mod Jobs
 pub mod Keeping
 pub mod Loads

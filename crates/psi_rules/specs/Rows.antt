@@ -1,5 +1,5 @@
 -- How the tables of a program are filled, one statement after another. This project's own.
-use Rattle.std.specs.Prelude.{◌≡◌, ℕ, ◌<◌, ◌⊎◌, List, [], ◌∷◌, ◌++◌, drop, length, map, replicate, slice_get, slice_index_or, Some}
+use Rattle.std.specs.Prelude.{◌≡◌, ℕ, ◌<◌, ◌⊎◌, List, [], ◌∷◌, ◌++◌, drop, length, map, replicate, slice_get, slice_index_or, IsSome, Some}
 use Rattle.std.specs.Map.{lookup}
 use Rattle.std.specs.Str.{bytes_eq}
 use Rattle.indexmap.specs.IndexMap.{insert_entry}
@@ -79,4 +79,5 @@ pub record IsFilled (items : List Item) (number : ℕ) (tables : Tables) (next :
   pub ends : length tables.ends ≡ number
   pub rows : (before : ℕ) (item : Item) → slice_get items before ≡ Some item → before < number → IsRow items tables before item
   pub names : AreDeclared items number tables.numbers
+  pub all_named : (before : ℕ) (name : List ℕ) → IsDeclared items before name → before < number → IsSome (lookup (bytes_eq name) tables.numbers)
   pub owners : tables.owners ++ map (λ o. o.statement) (owned_from number next (drop number items)) ≡ map (λ o. o.statement) (owned items)

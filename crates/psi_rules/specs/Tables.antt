@@ -1,5 +1,5 @@
 -- What is known of the nodes and the statements of a program's pools before forms are built. This project's own.
-use Rattle.std.specs.Prelude.{◌≡◌, ℕ, ◌<◌, List, [], ◌∷◌, length, map, slice_get, slice_index_or, Some, ⊤}
+use Rattle.std.specs.Prelude.{◌≡◌, ℕ, ◌+◌, ◌<◌, ◌≤◌, true, List, [], ◌∷◌, length, map, slice_get, slice_index_or, Some, ⊤}
 use Rattle.std.specs.List.{AllByRecursion}
 use Rattle.std.specs.Map.{lookup}
 use Rattle.std.specs.Str.{bytes_eq}
@@ -8,13 +8,18 @@ use Rattle.moa_tree.specs.declared.tree.Statement.TheVariants as statement
 use Rattle.moa_tree.specs.Pool.{walk_of}
 use Rattle.moa_tree.specs.Pools.{Pools}
 use Rattle.moa_tree.specs.ShapeOf.{beside}
+use Rattle.moa_tree.specs.Subexpressions.{scans_in}
+use Rattle.shape_check.specs.Costs.{nodes, price}
 use Rattle.normal_form.specs.declared.entry.Entry.{Entry}
 use Rattle.normal_form.specs.Formers.{Former}
 use Rattle.shape_check.specs.Judged.{items_in, node_tree}
 use Rattle.shape_check.specs.Kept.{Checking}
+use Rattle.shape_check.specs.Rules.{is_declared}
+use Rattle.psi_rules.specs.Numbered.{greatest_area, prices_at}
+use Rattle.psi_rules.specs.Operands.{IsAccepted}
 use Rattle.psi_rules.specs.declared.tables.Meant.{Meant}
 use Rattle.psi_rules.specs.declared.tables.Meant.TheVariants as meant
-use Rattle.psi_rules.specs.Rules.{Names, form, loading, nameless, shape_in}
+use Rattle.psi_rules.specs.Rules.{Names, form, loading, nameless, shape_in, shapes_of}
 use Rattle.psi_rules.specs.Scopes.{names_at, next_at, owned}
 
 -- by the number of a statement, the area of its first scan, that of its array, where it is stored, and the statement to which its name leads
@@ -73,6 +78,38 @@ IsMeant checking tables former (meant.Given number node) =
     × ((entries : List Entry) → former entries
     ≡ form (names_at (items_in checking.pools) number) (scan_at tables number) (node_tree checking.pools node) entries)
 
+-- the expression of a node of a statement is accepted there, with this shape and so many nodes, and the areas of its scans have numbers
+pub record IsGiven (checking : Checking) (tables : Tables) (shape : List ℕ) (count other node : ℕ) : Type 0 where
+  pub accepted : IsAccepted (shapes_of (names_at (items_in checking.pools) other)) (node_tree checking.pools node)
+  pub shaped : shape_in (names_at (items_in checking.pools) other) (node_tree checking.pools node) ≡ shape
+  pub counted : nodes (prices_at (items_in checking.pools) other) (node_tree checking.pools node) ≡ count
+  pub areas : scan_at tables other + length (scans_in (node_tree checking.pools node)) ≤ greatest_area
+
+abbrev pub IsMeantSo : Checking → Tables → List ℕ → ℕ → Meant → Type 0
+IsMeantSo checking tables shape count (meant.Stored other) = count ≡ 1
+IsMeantSo checking tables shape count (meant.Given other node) = IsGiven checking tables shape count other node
+
+-- what a name of a statement stands for has the shape and the count of nodes that the name has there
+abbrev pub IsNameMeantSo : Checking → Tables → ℕ → List ℕ → Meant → Type 0
+IsNameMeantSo checking tables number name meant =
+    IsMeantSo checking tables (beside [] (shapes_of (names_at (items_in checking.pools) number)) name)
+    (price (prices_at (items_in checking.pools) number) name).nodes meant
+
+-- a name of a statement is that of an earlier one, and so leads to an earlier one
+pub record IsKnown (checking : Checking) (tables : Tables) (number : ℕ) (name : List ℕ) : Type 0 where
+  pub declared : ℕ
+  pub found : lookup (bytes_eq name) tables.numbers ≡ Some declared
+  pub before : declared < number
+  pub earlier : end_at tables declared < number
+  pub there : end_at tables declared < length checking.pools.statements
+  pub so : (statement : Statement) → slice_get checking.pools.statements (end_at tables declared) ≡ Some statement
+      → IsNameMeantSo checking tables number name (meant_at (end_at tables declared) statement)
+
+-- each name that is declared before a statement is known there
+abbrev pub AreKnown : Checking → Tables → Type 0
+AreKnown checking tables = (number : ℕ) (name : List ℕ)
+    → is_declared (shapes_of (names_at (items_in checking.pools) number)) name ≡ true → IsKnown checking tables number name
+
 -- an earlier name stands for the array of the statement to which it leads
 abbrev pub AreMeant : Checking → Tables → Type 0
 AreMeant checking tables = (number declared : ℕ) (name : List ℕ) (statement : Statement)
@@ -84,6 +121,7 @@ AreMeant checking tables = (number declared : ℕ) (name : List ℕ) (statement 
 pub record IsScope (checking : Checking) (tables : Tables) (number : ℕ) (names : Names) : Type 0 where
   pub names_before : names ≡ names_at (items_in checking.pools) number
   pub meant : AreMeant checking tables
+  pub known : AreKnown checking tables
 
 -- the form of a node of a statement can be built: each node of its expression has its shape, and what each name means is known
 pub record IsReady (checking : Checking) (tables : Tables) (statement : ℕ) (names : Names) (number : ℕ) : Type 0 where
@@ -101,3 +139,4 @@ pub record AreTables (checking : Checking) (tables : Tables) : Type 0 where
   pub scans : (number : ℕ) → number < length checking.pools.statements → scan_at tables number ≡ (next_at (items_in checking.pools) number).scan
   pub owners : tables.owners ≡ map (λ o. o.statement) (owned (items_in checking.pools))
   pub meant : AreMeant checking tables
+  pub known : AreKnown checking tables

@@ -1,17 +1,19 @@
 // Offsets and their digits.
-ghost use Rattle.std.specs.Prelude.{◌≡◌, ◌<◌, IfOk, pos, unsigned_abs};
+ghost use Rattle.std.specs.Prelude.{◌≡◌, ℕ, List, ◌<◌, ◌≤◌, IfSome, drop, length};
 ghost use Rattle.std.specs.Option.{option_map};
-ghost use Rattle.shapes_core.specs.Gamma.{digit, gamma};
-ghost use Rattle.shapes_core.specs.Shape.{total};
-ghost use Rattle.normal_form.specs.declared.entry.Entry.TheVariants.{At};
+ghost use Rattle.shapes_core.specs.Gamma.{gamma};
+ghost use Rattle.shapes_core.specs.Limits.{greatest_extent};
+ghost use Rattle.shapes_core.specs.Shape.{IsShape, span, total};
 ghost use Rattle.normal_form.specs.declared.entry.Entry.{Entry as AnEntry};
 ghost use Rattle.normal_form.specs.Formers.{Making, constants, digiting, flattening};
+ghost use Rattle.normal_form.specs.Keeps.{AreWithin};
 ghost use Rattle.psi_rules.specs.Building.{digit_by, flat_by};
+ghost use Rattle.psi_rules.specs.Fitting.{ArePlaces, IsDigitWithin};
 
 use crate::moves::{entry_on, signed};
-use crate::shapes::shaped;
 use normal_form::{Entries, Entry};
-use shapes_core::{NoMemory, Shape, digit, total};
+use shapes_core::laws::span_laws;
+use shapes_core::{Shape, digit, weight};
 
 /// An offset or a digit of one: one that is found, or the variable that is bound next.
 #[derive(Clone, Copy)]
@@ -20,66 +22,58 @@ pub(crate) enum Digited {
     Bound,
 }
 
-/// The digit of a constant.
-fn constant_digit(constant: i64, weight: u64, n: u64) -> Result<Entry, NoMemory>
-    ensures { IfOk result (λ found. found ≡ At (pos (digit (unsigned_abs constant) weight n))) }
-{
-    if weight == 0 || n == 0 {
-        return Err(NoMemory);
-    }
-    let place = digit(constant.unsigned_abs(), weight, n);
-    Ok(Entry::At(signed(place)?))
-}
-
 /// The entry of an axis of this weight and extent, at an offset.
-pub(crate) fn digit_entry(flat: Entry, weight: u64, n: u64) -> Result<Digited, NoMemory>
-    ensures { IfOk result (λ found. (rest : AnEntry → Making) → digiting flat weight n rest ≡ digit_by found flat weight n rest) }
+pub(crate) fn digit_entry(flat: Entry, weight: u64, n: u64) -> Digited
+    requires weight { 0 < weight }
+    requires some { 0 < n }
+    requires small { n ≤ greatest_extent }
+    ensures digits { (rest : AnEntry → Making) → digiting flat weight n rest ≡ digit_by result flat weight n rest }
+    ensures within { (room : ℕ) (known : List ℕ) → IsDigitWithin result room known n }
 {
     if n == 1 {
-        return Ok(Digited::Found(Entry::At(0)));
+        return Digited::Found(Entry::At(0));
     }
     match flat {
-        Entry::At(constant) => Ok(Digited::Found(constant_digit(constant, weight, n)?)),
-        Entry::Plus { .. } | Entry::Minus { .. } => Ok(Digited::Bound),
+        Entry::At(constant) => {
+            let place = digit(constant.unsigned_abs(), weight, n);
+            Digited::Found(Entry::At(signed(place)))
+        }
+        Entry::Plus { .. } | Entry::Minus { .. } => Digited::Bound,
     }
 }
 
-/// The offset of entries of these extents, if all are constants.
-fn constant_offset(list: &[Entry], extents: &[u64]) -> Result<Option<u64>, NoMemory>
-    ensures { IfOk result (λ offset. offset ≡ option_map (λ index. gamma index extents.now) (constants list.now)) }
+/// The offset of entries of the axes of a shape from one on, if all are constants.
+fn constant_offset(shape: &Shape, axis: usize, list: &[Entry]) -> Option<u64>
+    requires shape { IsShape shape.now }
+    requires within { axis ≤ length shape.now }
+    requires places { ArePlaces list.now (drop axis shape.now) }
+    ensures offset { result ≡ option_map (λ index. gamma index (drop axis shape.now)) (constants list.now) }
+    ensures small { IfSome result (λ offset. offset < span (drop axis shape.now)) }
 {
     let Some((entry, entries)) = list.split_first() else {
-        return Ok(Some(0));
-    };
-    let Some((_, axes)) = extents.split_first() else {
-        return Err(NoMemory);
+        return Some(0);
     };
     let Entry::At(constant) = entry else {
-        return Ok(None);
+        return None;
     };
-    let Some(offset) = constant_offset(entries, axes)? else {
-        return Ok(None);
-    };
-    let items = total(&shaped(axes)?);
-    match constant.unsigned_abs().checked_mul(items) {
-        None => Err(NoMemory),
-        Some(place) => match place.checked_add(offset) {
-            None => Err(NoMemory),
-            Some(sum) => Ok(Some(sum)),
-        },
-    }
+    let offset = constant_offset(shape, axis + 1, entries)?;
+    span_laws();
+    Some(constant.unsigned_abs() * weight(shape, axis) + offset)
 }
 
 /// The offset of entries of a shape.
-pub(crate) fn offset_entry(shape: &Shape, entries: &Entries) -> Result<Digited, NoMemory>
-    ensures { IfOk result (λ found. (rest : AnEntry → Making) → flattening shape.now entries.now rest ≡ flat_by found shape.now entries.now rest) }
+pub(crate) fn offset_entry(shape: &Shape, entries: &Entries) -> Digited
+    requires { ArePlaces entries.now shape.now }
+    ensures offset { (rest : AnEntry → Making) → flattening shape.now entries.now rest ≡ flat_by result shape.now entries.now rest }
+    ensures within { (room : ℕ) (known : List ℕ) → AreWithin room known entries.now shape.now
+        → IsDigitWithin result room known (total shape.now) }
 {
-    let extents = shape.extents();
-    if extents.len() == 1 {
-        return Ok(Digited::Found(entry_on(0, entries)));
+    if shape.extents().len() == 1 {
+        return Digited::Found(entry_on(0, entries));
     }
-    match constant_offset(entries.list(), extents)? {
-        Some(offset) => Ok(Digited::Found(Entry::At(signed(offset)?))),
-        None => Ok(Digited::Bound),
+    span_laws();
+    match constant_offset(shape, 0, entries.list()) {
+        Some(offset) => Digited::Found(Entry::At(signed(offset))),
+        None => Digited::Bound,
     }
 }

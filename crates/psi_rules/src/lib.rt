@@ -16,6 +16,7 @@ mod places;
 mod pool;
 mod reduction;
 pub mod rule_examples;
+mod shaped;
 mod shapes;
 mod sides;
 mod statements;

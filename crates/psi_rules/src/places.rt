@@ -1,16 +1,16 @@
 // Where an expression stands among the statements and the scans of a program.
-ghost use Rattle.std.specs.Prelude.{◌≡◌, ◌+◌, ◌<◌, ℤ, List, IfOk, length};
+ghost use Rattle.std.specs.Prelude.{◌≡◌, ◌+◌, ◌<◌, ◌≤◌, ℤ, List, length};
 ghost use Rattle.moa_tree.specs.Expr.{Expr};
 ghost use Rattle.moa_tree.specs.Pool.{expr_of, operands};
 ghost use Rattle.moa_tree.specs.Subexpressions.{scans_in};
 ghost use Rattle.shape_check.specs.Judged.{node_tree};
 ghost use Rattle.psi_rules.specs.Places.{scans_under};
 ghost use Rattle.psi_rules.specs.Rules.{scan_behind};
+ghost use Rattle.psi_rules.specs.Numbered.{greatest_area};
 
 use crate::nodes::node_of;
 use moa_tree::{Node, Operands};
 use shape_check::Checked;
-use shapes_core::NoMemory;
 
 /// The number of a statement, and the area of the first scan of an expression that stands in it.
 #[derive(Clone, Copy)]
@@ -30,44 +30,32 @@ fn own_scans(node: &Node) -> u32
     }
 }
 
-/// The sum of two numbers.
-fn sum(first: u32, second: u32) -> Result<u32, NoMemory>
-    ensures { IfOk result (λ sum. sum ≡ first + second) }
-{
-    match first.checked_add(second) {
-        Some(sum) => Ok(sum),
-        None => Err(NoMemory),
-    }
-}
-
 /// How many scans are in the expression of a node.
-pub(crate) fn scans_at(checked: &Checked, number: u32) -> Result<u32, NoMemory>
-    requires { number < length checked.now.pools.nodes }
-    ensures { IfOk result (λ count. count ≡ length (scans_in (node_tree checked.now.pools number))) }
+pub(crate) fn scans_at(checked: &Checked, number: u32) -> u32
+    requires there { number < length checked.now.pools.nodes }
+    requires few { length (scans_in (node_tree checked.now.pools number)) ≤ greatest_area }
+    ensures { result ≡ length (scans_in (node_tree checked.now.pools number)) }
 {
     let node = node_of(checked, number);
     let own = own_scans(&node);
     match node.operands() {
-        Operands::None => Ok(own),
-        Operands::One(of) => sum(own, scans_at(checked, of)?),
-        Operands::Two(left, right) => {
-            let first = sum(own, scans_at(checked, left)?)?;
-            sum(first, scans_at(checked, right)?)
-        }
+        Operands::None => own,
+        Operands::One(of) => own + scans_at(checked, of),
+        Operands::Two(left, right) => own + scans_at(checked, left) + scans_at(checked, right),
     }
 }
 
 /// Where the second of two operands stands, the first of which stands here.
-pub(crate) fn place_behind(checked: &Checked, place: Place, left: u32) -> Result<Place, NoMemory>
-    requires { left < length checked.now.pools.nodes }
-    ensures { IfOk result (λ behind. behind ≡ record {
+pub(crate) fn place_behind(checked: &Checked, place: Place, left: u32) -> Place
+    requires there { left < length checked.now.pools.nodes }
+    requires few { scan_behind place.scan (node_tree checked.now.pools left) ≤ greatest_area }
+    ensures { result ≡ record {
       statement = place.statement;
       scan = scan_behind place.scan (node_tree checked.now.pools left);
-    }) }
+    } }
 {
-    let scan = sum(place.scan, scans_at(checked, left)?)?;
-    Ok(Place {
+    Place {
         statement: place.statement,
-        scan,
-    })
+        scan: place.scan + scans_at(checked, left),
+    }
 }

@@ -1,17 +1,18 @@
 // A pool of terms that grows.
-ghost use Rattle.std.specs.Prelude.{◌≡◌, ◌<◌, ◌++◌, [], ◌∷◌, IfOk, OnErr, OnOk, length, pos};
+ghost use Rattle.std.specs.Prelude.{◌≡◌, ◌<◌, ◌≤◌, ◌++◌, [], ◌∷◌, IfOk, OnErr, OnOk, length, pos, suc};
 ghost use Rattle.std.specs.List.{AllByRecursion};
+ghost use Rattle.shapes_core.specs.Limits.{greatest_extent, most_items};
 ghost use Rattle.normal_form.specs.Forms.{Normal, Lit, Index, Un, Bin, Case, Fold, Let};
 ghost use Rattle.normal_form.specs.declared.term.Bind.TheVariants.{Digit, Flat, Turn};
 ghost use Rattle.normal_form.specs.Formers.{just};
 ghost use Rattle.normal_form.specs.Pool.{form_of, forms, operands};
-ghost use Rattle.psi_rules.specs.Building.{Adds, Builds, IsFresh, IsPool, IsThere, Stands};
+ghost use Rattle.psi_rules.specs.Building.{Adds, Builds, IsFresh, IsPool, IsThere, Stands, used};
 ghost use Rattle.psi_rules.specs.Rules.{loading};
 
 use crate::moves::signed;
 use moa_tree::{Op, Unary};
 use normal_form::{Bind, Entries, Entry, Term};
-use shapes_core::{MOST_ITEMS, NoMemory, Shape};
+use shapes_core::{NoMemory, Shape};
 use std::alloc::Global;
 use std::marker::Model;
 
@@ -71,13 +72,12 @@ impl Pool {
     /// Adds a term whose operands are there.
     #[inline(never)]
     pub(crate) fn push(&mut self, term: Term) -> Result<u32, NoMemory>
-        requires { AllByRecursion (λ operand. operand < length self.old.terms) (operands term) }
+        requires operands { AllByRecursion (λ operand. operand < length self.old.terms) (operands term) }
+        requires room { used self.old < most_items }
         ensures adds { (form : Normal) → form_of (forms self.old.terms) term ≡ form → IfOk result (Adds form self.old self.new) }
         ensures there { IfOk result (IsThere self.old self.new) }
+        ensures one { IfOk result (λ number. used self.new ≡ suc (used self.old)) }
     {
-        if self.terms.len() >= MOST_ITEMS {
-            return Err(NoMemory);
-        }
         let number = self.terms.len() as u32;
         push_term(&mut self.terms, term)?;
         Ok(number)
@@ -85,33 +85,41 @@ impl Pool {
 
     /// Adds a constant.
     pub(crate) fn literal(&mut self, value: i64) -> Result<u32, NoMemory>
+        requires room { used self.old < most_items }
         ensures builds { IfOk result (Builds (just (Lit value)) self.old self.new) }
         ensures there { IfOk result (IsThere self.old self.new) }
+        ensures one { IfOk result (λ number. used self.new ≡ suc (used self.old)) }
     {
         self.push(Term::Lit(value))
     }
 
     /// Adds the number of an entry.
     pub(crate) fn index(&mut self, entry: Entry) -> Result<u32, NoMemory>
+        requires room { used self.old < most_items }
         ensures builds { IfOk result (Builds (just (Index entry)) self.old self.new) }
         ensures there { IfOk result (IsThere self.old self.new) }
+        ensures one { IfOk result (λ number. used self.new ≡ suc (used self.old)) }
     {
         self.push(Term::Index(entry))
     }
 
     /// Adds an element of an area.
     pub(crate) fn load(&mut self, area: u32, shape: Shape, at: Entries) -> Result<u32, NoMemory>
+        requires room { used self.old < most_items }
         ensures builds { IfOk result (Builds (loading area shape at) self.old self.new) }
         ensures there { IfOk result (IsThere self.old self.new) }
+        ensures one { IfOk result (λ number. used self.new ≡ suc (used self.old)) }
     {
         self.push(Term::Load { area, shape, at })
     }
 
     /// Adds an operator on a term.
     pub(crate) fn un(&mut self, op: Unary, of: u32) -> Result<u32, NoMemory>
-        requires { of < length self.old.terms }
+        requires there { of < length self.old.terms }
+        requires room { used self.old < most_items }
         ensures adds { (operand : Normal) → Stands self.old.terms of operand → IfOk result (Adds (Un op operand) self.old self.new) }
         ensures there { IfOk result (IsThere self.old self.new) }
+        ensures one { IfOk result (λ number. used self.new ≡ suc (used self.old)) }
     {
         self.push(Term::Un { op, of })
     }
@@ -120,9 +128,11 @@ impl Pool {
     pub(crate) fn bin(&mut self, op: Op, left: u32, right: u32) -> Result<u32, NoMemory>
         requires first { left < length self.old.terms }
         requires second { right < length self.old.terms }
+        requires room { used self.old < most_items }
         ensures adds { (one other : Normal) → Stands self.old.terms left one → Stands self.old.terms right other
             → IfOk result (Adds (Bin op one other) self.old self.new) }
         ensures there { IfOk result (IsThere self.old self.new) }
+        ensures one { IfOk result (λ number. used self.new ≡ suc (used self.old)) }
     {
         self.push(Term::Bin { op, left, right })
     }
@@ -137,11 +147,14 @@ impl Pool {
     ) -> Result<u32, NoMemory>
         requires first { yes < length self.old.terms }
         requires second { no < length self.old.terms }
+        requires small { extent ≤ greatest_extent }
+        requires room { used self.old < most_items }
         ensures adds { (one other : Normal) → Stands self.old.terms yes one → Stands self.old.terms no other
             → IfOk result (Adds (Case left (pos extent) one other) self.old self.new) }
         ensures there { IfOk result (IsThere self.old self.new) }
+        ensures one { IfOk result (λ number. used self.new ≡ suc (used self.old)) }
     {
-        let below = signed(extent)?;
+        let below = signed(extent);
         self.push(Term::Case {
             left,
             below,
@@ -152,9 +165,11 @@ impl Pool {
 
     /// Adds a fold of a term over a variable from 0 to below a number.
     pub(crate) fn fold(&mut self, op: Op, var: u32, high: u64, of: u32) -> Result<u32, NoMemory>
-        requires { of < length self.old.terms }
+        requires there { of < length self.old.terms }
+        requires room { used self.old < most_items }
         ensures adds { (operand : Normal) → Stands self.old.terms of operand → IfOk result (Adds (Fold op var 0 high operand) self.old self.new) }
         ensures there { IfOk result (IsThere self.old self.new) }
+        ensures one { IfOk result (λ number. used self.new ≡ suc (used self.old)) }
     {
         self.push(Term::Fold {
             op,
@@ -167,9 +182,11 @@ impl Pool {
 
     /// Adds a term under a variable that is bound.
     pub(crate) fn bound(&mut self, var: u32, bind: Bind, of: u32) -> Result<u32, NoMemory>
-        requires { of < length self.old.terms }
+        requires there { of < length self.old.terms }
+        requires room { used self.old < most_items }
         ensures adds { (operand : Normal) → Stands self.old.terms of operand → IfOk result (Adds (Let var bind operand) self.old self.new) }
         ensures there { IfOk result (IsThere self.old self.new) }
+        ensures one { IfOk result (λ number. used self.new ≡ suc (used self.old)) }
     {
         self.push(Term::Let { var, bind, of })
     }
@@ -183,10 +200,12 @@ impl Pool {
         extent: u64,
         of: u32,
     ) -> Result<u32, NoMemory>
-        requires { of < length self.old.terms }
+        requires there { of < length self.old.terms }
+        requires room { used self.old < most_items }
         ensures adds { (operand : Normal) → Stands self.old.terms of operand
             → IfOk result (Adds (Let var (Turn entry by extent) operand) self.old self.new) }
         ensures there { IfOk result (IsThere self.old self.new) }
+        ensures one { IfOk result (λ number. used self.new ≡ suc (used self.old)) }
     {
         let bind = Bind::Turn {
             of: entry,
@@ -206,10 +225,12 @@ impl Pool {
         extent: u64,
         of: u32,
     ) -> Result<u32, NoMemory>
-        requires { of < length self.old.terms }
+        requires there { of < length self.old.terms }
+        requires room { used self.old < most_items }
         ensures adds { (operand : Normal) → Stands self.old.terms of operand
             → IfOk result (Adds (Let var (Digit flat weight extent) operand) self.old self.new) }
         ensures there { IfOk result (IsThere self.old self.new) }
+        ensures one { IfOk result (λ number. used self.new ≡ suc (used self.old)) }
     {
         let bind = Bind::Digit {
             of: flat,
@@ -228,10 +249,12 @@ impl Pool {
         shape: &Shape,
         of: u32,
     ) -> Result<u32, NoMemory>
-        requires { of < length self.old.terms }
+        requires there { of < length self.old.terms }
+        requires room { used self.old < most_items }
         ensures adds { (operand : Normal) → Stands self.old.terms of operand
             → IfOk result (Adds (Let var (Flat entries.now shape.now) operand) self.old self.new) }
         ensures there { IfOk result (IsThere self.old self.new) }
+        ensures one { IfOk result (λ number. used self.new ≡ suc (used self.old)) }
     {
         let bind = Bind::Flat {
             of: *entries,
@@ -241,16 +264,12 @@ impl Pool {
     }
 
     /// The number of a variable that no term has.
-    pub(crate) fn fresh(&mut self) -> Result<u32, NoMemory>
-        ensures { IfOk result (IsFresh self.old self.new) }
+    pub(crate) fn fresh(&mut self) -> u32
+        requires { used self.old < most_items }
+        ensures { IsFresh self.old self.new result }
     {
         let var = self.next;
-        match var.checked_add(1) {
-            Some(next) => {
-                self.next = next;
-                Ok(var)
-            }
-            None => Err(NoMemory),
-        }
+        self.next = var + 1;
+        var
     }
 }

@@ -93,11 +93,11 @@ pub fn reduce_among(
     tasks_are_good(checked);
     let this = job_at(checked, job);
     let shape = checked.shape_of(this.node);
+    let _extents = shape.extents();
     let statement = tables.owner_at(job);
     let scan = first_scan(tables, statement, this);
     let terms = terms_of(alloc, checked, tables, Place { statement, scan }, this.node)?;
     let _statements = checked.program().statements();
-    let _extents = shape.extents();
     Ok(Normal::new(this, shape, Region::whole(&shape), terms))
 }
 

@@ -1,12 +1,14 @@
 // The parts of a join that an index reaches.
-ghost use Rattle.std.specs.Prelude.{◌≡◌, ℕ, IfOk};
+ghost use Rattle.std.specs.Prelude.{◌≡◌, ◌+◌, ◌≤◌, ℕ, List};
+ghost use Rattle.shapes_core.specs.Limits.{greatest_extent};
 ghost use Rattle.normal_form.specs.declared.entry.Entry.TheVariants.{At};
 ghost use Rattle.normal_form.specs.Formers.{Making, joining};
+ghost use Rattle.normal_form.specs.Keeps.{IsWithin};
 ghost use Rattle.psi_rules.specs.Building.{sided};
+ghost use Rattle.psi_rules.specs.Fitting.{IsWithinSide};
 
 use crate::moves::signed;
 use normal_form::Entry;
-use shapes_core::NoMemory;
 
 /// The first part, the second one, or either.
 #[derive(Clone, Copy)]
@@ -17,29 +19,34 @@ pub(crate) enum Side {
 }
 
 /// The part that a constant is in, where the first has n items.
-fn side_of(constant: i64, n: u64) -> Result<Side, NoMemory>
-    ensures { IfOk result (λ side. (m : ℕ) (first second : Making) → (n ≡ 0 → ⊥) → (m ≡ 0 → ⊥)
-        → joining n m (At constant) first second ≡ sided side n (At constant) first second) }
+fn side_of(constant: i64, n: u64) -> Side
+    requires { n ≤ greatest_extent }
+    ensures joins { (m : ℕ) (first second : Making) → (n ≡ 0 → ⊥) → (m ≡ 0 → ⊥)
+        → joining n m (At constant) first second ≡ sided result n (At constant) first second }
+    ensures within { (room m : ℕ) (known : List ℕ) → IsWithin room known (At constant) (n + m)
+        → IsWithinSide result room known n m (At constant) }
 {
-    if constant < signed(n)? {
-        Ok(Side::First)
+    if constant < signed(n) {
+        Side::First
     } else {
-        Ok(Side::Second)
+        Side::Second
     }
 }
 
 /// The parts that an entry can be in, where the first has n items and the second m.
-pub(crate) fn reached(n: u64, m: u64, entry: Entry) -> Result<Side, NoMemory>
-    ensures { IfOk result (λ side. (first second : Making) → joining n m entry first second ≡ sided side n entry first second) }
+pub(crate) fn reached(n: u64, m: u64, entry: Entry) -> Side
+    requires { n ≤ greatest_extent }
+    ensures joins { (first second : Making) → joining n m entry first second ≡ sided result n entry first second }
+    ensures within { (room : ℕ) (known : List ℕ) → IsWithin room known entry (n + m) → IsWithinSide result room known n m entry }
 {
     if n == 0 {
-        return Ok(Side::Second);
+        return Side::Second;
     }
     if m == 0 {
-        return Ok(Side::First);
+        return Side::First;
     }
     match entry {
         Entry::At(constant) => side_of(constant, n),
-        Entry::Plus { .. } | Entry::Minus { .. } => Ok(Side::Both),
+        Entry::Plus { .. } | Entry::Minus { .. } => Side::Both,
     }
 }

@@ -16,8 +16,8 @@ ghost use Rattle.psi_rules.specs.Tables.{AreTables, Tables as Known};
 use crate::node_shapes::nodes_have_shapes;
 use crate::nodes::node_of;
 use crate::places::scans_at;
-use crate::tables::Tables;
-use moa_tree::{Node, Statement, parts_are_there};
+use crate::tables::{Tables, statement_of};
+use moa_tree::{Node, Statement};
 use shape_check::Checked;
 use shape_check::laws::verdicts_are_shapes;
 use shapes_core::{Name, NoMemory};
@@ -97,12 +97,13 @@ fn name_of(statement: &Statement) -> Name
 }
 
 /// How many scans are in a statement.
-fn scans_in(checked: &Checked, statement: &Statement) -> Result<u32, NoMemory>
-    requires { AllByRecursion (λ node. node < length checked.now.pools.nodes) (nodes_of statement.now) }
-    ensures { IfOk result (λ count. count ≡ length (scans_of (item_in checked.now.pools statement.now))) }
+fn scans_in(checked: &Checked, statement: &Statement) -> u32
+    requires there { AllByRecursion (λ node. node < length checked.now.pools.nodes) (nodes_of statement.now) }
+    requires few { length (scans_of (item_in checked.now.pools statement.now)) ≤ greatest_area }
+    ensures { result ≡ length (scans_of (item_in checked.now.pools statement.now)) }
 {
     match statement {
-        Statement::Input { .. } => Ok(0),
+        Statement::Input { .. } => 0,
         Statement::Name { node, .. } | Statement::Output { node, .. } => scans_at(checked, *node),
     }
 }
@@ -149,16 +150,6 @@ fn end_of(checked: &Checked, tables: &Tables, number: u32, statement: &Statement
     tables.end_at(declared)
 }
 
-/// The statement of this number, which is there, and its nodes too.
-fn statement_of(checked: &Checked, number: u32) -> Statement
-    requires { number < length checked.now.pools.statements }
-    ensures there { slice_get checked.now.pools.statements number ≡ Some result }
-    ensures nodes { AllByRecursion (λ node. node < length checked.now.pools.nodes) (nodes_of result) }
-{
-    parts_are_there();
-    checked.program().statements()[number as usize]
-}
-
 /// The areas of each statement of a checked program have numbers. Nothing runs.
 fn areas_have_numbers(checked: &Checked)
     ensures { (number : ℕ) (item : AnItem) → slice_get (items_in checked.now.pools) number ≡ Some item
@@ -181,7 +172,7 @@ fn enter(
 {
     areas_have_numbers(checked);
     let statement = statement_of(checked, number);
-    let scans = scans_in(checked, &statement)?;
+    let scans = scans_in(checked, &statement);
     let end = end_of(checked, tables, number, &statement);
     tables.push(next.scan, own_area(next, &statement), end)?;
     tables.declare(name_of(&statement), number)?;

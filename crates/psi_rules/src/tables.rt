@@ -1,5 +1,5 @@
 // What is known of the statements of a program, and what its names stand for.
-ghost use Rattle.std.specs.Prelude.{◌≡◌, ◌<◌, ◌++◌, [], IfSome, OnOk, length, replicate, slice_get};
+ghost use Rattle.std.specs.Prelude.{◌≡◌, ◌<◌, ◌++◌, [], OnOk, length, replicate, slice_get, IsSome, Some};
 ghost use Rattle.std.specs.List.{AllByRecursion};
 ghost use Rattle.std.specs.Map.{lookup};
 ghost use Rattle.std.specs.Str.{bytes_eq};
@@ -9,7 +9,7 @@ ghost use Rattle.shape_check.specs.Judged.{items_in};
 ghost use Rattle.psi_rules.specs.Rows.{with_jobs, with_name, with_row};
 ghost use Rattle.psi_rules.specs.Rules.{nameless};
 ghost use Rattle.psi_rules.specs.Scopes.{names_at};
-ghost use Rattle.psi_rules.specs.Tables.{AreMeant, IsBefore, IsMeant, area_at, end_at, meant_at, owner_at, scan_at, Tables as Known};
+ghost use Rattle.psi_rules.specs.Tables.{AreMeant, IsBefore, IsKnown, IsMeant, IsNameMeantSo, area_at, end_at, meant_at, owner_at, scan_at, Tables as Known};
 
 use indexmap::IndexMap;
 use moa_tree::{Statement, parts_are_there};
@@ -135,14 +135,14 @@ fn push_each(numbers: &mut Vec<u32>, number: u32, count: u32) -> Result<(), NoMe
     Ok(())
 }
 
-/// The statement of this number, if there is one.
-fn statement_at(checked: &Checked, number: u32) -> Option<Statement>
-    ensures found { result ≡ slice_get checked.now.pools.statements number }
-    ensures nodes { IfSome result (λ statement. (number < length checked.now.pools.statements)
-        × AllByRecursion (λ node. node < length checked.now.pools.nodes) (nodes_of statement)) }
+/// The statement of this number, which is there, and its nodes too.
+pub(crate) fn statement_of(checked: &Checked, number: u32) -> Statement
+    requires { number < length checked.now.pools.statements }
+    ensures there { slice_get checked.now.pools.statements number ≡ Some result }
+    ensures nodes { AllByRecursion (λ node. node < length checked.now.pools.nodes) (nodes_of result) }
 {
     parts_are_there();
-    checked.program().statements().get(number as usize).copied()
+    checked.program().statements()[number as usize]
 }
 
 /// The array that a statement gives to its name.
@@ -158,22 +158,23 @@ fn meant_at(number: u32, statement: &Statement) -> Meant
     }
 }
 
-/// The array for which a name stands in a statement, where an earlier one declares it.
-pub(crate) fn meant_by(
-    checked: &Checked,
-    tables: &Tables,
-    name: &Name,
-    number: u32,
-) -> Option<Meant>
-    ensures before { IfSome result (IsBefore checked.now.pools number) }
-    ensures meant { AreMeant checked.now tables.now
-        → IfSome result (IsMeant checked.now tables.now (beside nameless (names_at (items_in checked.now.pools) number) name.now).form) }
+/// The number of the statement that declares a name, as one does.
+fn declared_by(tables: &Tables, name: &Name) -> u32
+    requires { IsSome (lookup (bytes_eq name.now) tables.now.numbers) }
+    ensures { lookup (bytes_eq name.now) tables.now.numbers ≡ Some result }
 {
-    let declared = tables.number_of(name)?;
+    tables.number_of(name).unwrap()
+}
+
+/// The array for which a name stands in a statement, before which it is declared.
+pub(crate) fn meant_by(checked: &Checked, tables: &Tables, name: &Name, number: u32) -> Meant
+    requires { IsKnown checked.now tables.now number name.now }
+    ensures before { IsBefore checked.now.pools number result }
+    ensures meant { AreMeant checked.now tables.now
+        → IsMeant checked.now tables.now (beside nameless (names_at (items_in checked.now.pools) number) name.now).form result }
+    ensures so { IsNameMeantSo checked.now tables.now number name.now result }
+{
+    let declared = declared_by(tables, name);
     let end = tables.end_at(declared);
-    let statement = statement_at(checked, end)?;
-    if declared >= number || end >= number {
-        return None;
-    }
-    Some(meant_at(end, &statement))
+    meant_at(end, &statement_of(checked, end))
 }

@@ -20,7 +20,7 @@ use loop_ir::Nest;
 use register_map::Homes;
 use rv_line::{Assembly, Header, Line};
 use shape_check::Layout;
-use shapes_core::{Area, AreaKind, MOST_ITEMS, NoMemory};
+use shapes_core::{Area, AreaKind, NoMemory};
 use std::alloc::Global;
 
 /// The register that holds where a program returns to.
@@ -31,8 +31,7 @@ const RETURN: u8 = 1;
 /// which all nests share.
 ///
 /// # Errors
-/// `NoMemory` where memory is wanted and cannot be had, or where there are more areas than a text
-/// has.
+/// `NoMemory` where memory is wanted and cannot be had.
 pub fn emit(
     alloc: Global,
     nests: &[Nest],
@@ -132,9 +131,6 @@ fn areas_of(alloc: Global, layout: &Layout) -> Result<Vec<Area>, NoMemory>
     ensures fit { IfOk result (λ areas. AreAreas areas.items) }
 {
     let areas = layout.areas();
-    if areas.len() > MOST_ITEMS {
-        return Err(NoMemory);
-    }
     let mut copies = Vec::new(alloc);
     for area in areas {
         area_holds(area);

@@ -6,7 +6,7 @@ use Rattle.std.specs.Str.{bytes_eq}
 use Rattle.std.proofs.lemmas.List.{length-map, map-append}
 use Rattle.std.proofs.lemmas.List.Sums.{sum_by-cons}
 use Rattle.std.proofs.lemmas.Slice.Eq.{bytes_eq-Decides}
-use Rattle.shapes_core.specs.Limits.{most_words}
+use Rattle.shapes_core.specs.Limits.{most_items, most_words}
 use Rattle.shapes_core.specs.Shape.{total}
 use Rattle.shapes_core.specs.declared.area.Area.{Area}
 use Rattle.shapes_core.specs.declared.area.AreaKind.TheVariants as area
@@ -63,6 +63,10 @@ kinds-scan number (shape ∷ all) =
 packed-placed : (start : ℕ) (all : List Array) → ArePacked start (placed start all)
 packed-placed start [] = tt
 packed-placed start (array ∷ all) = (refl, packed-placed (start + total array.1) all)
+
+length-placed : (start : ℕ) (all : List Array) → length (placed start all) ≡ length all
+length-placed start [] = refl
+length-placed start (array ∷ all) = ap suc (length-placed (start + total array.1) all)
 
 pub words-placed : (start : ℕ) (all : List Array) → words_of (placed start all) ≡ array_words all
 words-placed start [] = refl
@@ -163,8 +167,9 @@ names-good shapes r k n (item ∷ items) h =
         absurd (err-not-ok f r (verdict_from shapes k n (item ∷ items))
         (ap (λ v. and_then v (λ shape. verdict_from ((name_of item, shape) ∷ shapes) (suc k) (n + length (subexpressions_of item)) items)) e) h)
 
-pub layout_kept : (items : List Item) (r : Shapes) → verdict_from [] 0 0 items ≡ Ok r → array_words (arrays items) ≤ most_words → IsLayout (placed 0 (arrays items))
-layout_kept items r accepted few =
+pub layout_kept : (items : List Item) (r : Shapes) → verdict_from [] 0 0 items ≡ Ok r → length (arrays items) ≤ most_items
+    → array_words (arrays items) ≤ most_words → IsLayout (placed 0 (arrays items))
+layout_kept items r accepted few small =
     let gi = gathered input_of [] items in
     let go = gathered output_of [] items in
     let gs = gathered scan_shapes [] items in
@@ -181,7 +186,8 @@ layout_kept items r accepted few =
           ∙ ap (λ l. (map area.In (input_names items) ++ map area.Out (output_names items)) ++ l) (kinds-scan 0 gs);
       differ = λ i j d before within. differ-pairs (names_in items) (names-good [] r 0 0 items accepted).1 i j d before within;
       packed = packed-placed 0 (arrays items);
-      small = let e = words-placed 0 (arrays items) in omega (arith, e, few);
+      few = let e = length-placed 0 (arrays items) in omega (arith, e, few);
+      small = let e = words-placed 0 (arrays items) in omega (arith, e, small);
     }
 
 -- ---- the shapes of statements

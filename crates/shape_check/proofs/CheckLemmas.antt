@@ -1,15 +1,16 @@
 -- From the first statement to the limits of the whole program.
-use Rattle.std.proofs.Common.{◌≡◌, ℕ, ◌+◌, ◌-◌, ◌^◌, ◌<◌, ◌≤◌, Bool, true, false, cond, List, [], ◌∷◌, ◌++◌, refl, ap, sym, subst, ◌∙◌, arith, length, map, min}
+use Rattle.std.proofs.Common.{◌≡◌, ℕ, ◌+◌, ◌-◌, ◌^◌, ◌<◌, ◌≤◌, Bool, true, false, cond, List, [], ◌∷◌, ◌++◌, refl, ap, sym, subst, ◌∙◌, arith, length, length-append, map, min}
 use Rattle.std.specs.Prelude.{None, Err, IsOk, nat_lt}
 use Rattle.std.specs.List.{AllByRecursion, list_any, range_with_len, sum_by}
 use Rattle.std.specs.Str.{bytes_eq}
 use Rattle.std.proofs.lemmas.Bool.{lt-ltb, ltb-true}
-use Rattle.std.proofs.lemmas.List.{append-nil, drop_all, take_all}
-use Rattle.shapes_core.specs.Limits.{greatest_size, greatest_work, most_words}
+use Rattle.std.proofs.lemmas.List.{append-nil, drop_all, length-map, take_all}
+use Rattle.shapes_core.specs.Limits.{greatest_size, greatest_work, most_items, most_words}
 use Rattle.shapes_core.specs.declared.area.Area.{Area}
-use Rattle.moa_tree.specs.Expr.{Item}
+use Rattle.moa_tree.specs.Expr.{Input, Item, Let, Output}
 use Rattle.moa_tree.specs.Pool.{item_of, trees, walk_of}
 use Rattle.moa_tree.specs.Pools.{Pools, nodes_of, walk}
+use Rattle.moa_tree.specs.ShapeOf.{Shapes}
 use Rattle.shape_check.specs.Judged.{items_in}
 use Rattle.shape_check.specs.declared.error.CheckError.TheVariants as error
 use Rattle.shape_check.specs.declared.inventory.Inventory.{Inventory}
@@ -19,7 +20,7 @@ use Rattle.shape_check.specs.Costs.{Prices, job_size, job_work, shapes_of, size,
 use Rattle.shape_check.specs.Jobs.{input_count, jobs_from, output_count}
 use Rattle.shape_check.specs.Judged.{AreNames, capped}
 use Rattle.shape_check.specs.Kept.{IsChecked, IsRefusedSo, pooled, shapes_at}
-use Rattle.shape_check.specs.Layout.{Array, arrays, gathered, input_of, numbered, output_of, placed, scan_shapes, words}
+use Rattle.shape_check.specs.Layout.{Array, arrays, gathered, input_of, numbered, output_of, placed, scan_shapes, shapes_after, words}
 use Rattle.shape_check.specs.Progress.{IsReached, Surveyed, left_of, next_output, next_scan, nodes_shapes, own_shape, walked}
 use Rattle.shape_check.specs.Rules.{Failure, limit}
 use Rattle.shape_check.specs.Statements.{program_limits, verdict_from, verdict_of}
@@ -54,9 +55,16 @@ start_reached pools inventory p n s ss j i o c t = record {
 
 -- ---- behind the last statement
 
+-- each statement adds at most one input or one output
+inputs_and_outputs : (shapes : Shapes) (items : List Item) → length (gathered input_of shapes items) + length (gathered output_of shapes items) ≤ length items
+inputs_and_outputs shapes [] = omega arith
+inputs_and_outputs shapes (Input name extents ∷ items) = let rest = inputs_and_outputs (shapes_after shapes (Input name extents)) items in omega (arith, rest)
+inputs_and_outputs shapes (Let name of ∷ items) = let rest = inputs_and_outputs (shapes_after shapes (Let name of)) items in omega (arith, rest)
+inputs_and_outputs shapes (Output name of ∷ items) = let rest = inputs_and_outputs (shapes_after shapes (Output name of)) items in omega (arith, rest)
+
 pub all_surveyed : (pools : Pools) (inventory : Inventory) (p : Progress) (prices : Prices) → inventory.inputs ≡ sum_by input_count (items_in pools)
-    → inventory.outputs ≡ sum_by output_count (items_in pools) → IsReached pools inventory (length pools.statements) p prices → Surveyed pools p
-all_surveyed pools inventory p prices ins outs r =
+    → inventory.outputs ≡ sum_by output_count (items_in pools) → length (walk pools) + length pools.statements ≤ most_items → IsReached pools inventory (length pools.statements) p prices → Surveyed pools p
+all_surveyed pools inventory p prices ins outs small r =
     let n = length pools.statements in
     let none : left_of pools n ≡ [] = ap (map (item_of pools.numbers (trees pools.numbers pools.nodes))) (drop_all n pools.statements (omega arith)) in
     let all : walked pools n ≡ walk pools = ap (λ l. Rattle.std.specs.List.flat_map (walk_of pools.nodes) (Rattle.std.specs.List.flat_map nodes_of l)) (take_all n pools.statements (omega arith)) in
@@ -84,6 +92,20 @@ all_surveyed pools inventory p prices ins outs r =
           ap (λ l. l ++ p.outputs.items ++ p.scans.items) a
           ∙ ap (λ l. gathered input_of [] (items_in pools) ++ l ++ p.scans.items) b
           ∙ ap (λ l. gathered input_of [] (items_in pools) ++ gathered output_of [] (items_in pools) ++ l) c;
+      few =
+          let items = items_in pools in
+          let scans = numbered 0 (gathered scan_shapes [] items) in
+          let same : p.scans.items ≡ scans =
+          sym (append-nil p.scans.items) ∙ ap (λ l. p.scans.items ++ numbered (length p.scans.items) (gathered scan_shapes (shapes_of prices) l)) (sym none) ∙ r.scans in
+          let long = ap length same in
+          let walked_all = ap length all in
+          let inputs = gathered input_of [] items in
+          let outputs = gathered output_of [] items in
+          let front : length (arrays (items_in pools)) ≡ length (inputs ++ outputs) + length scans = length-append (inputs ++ outputs) scans in
+          let back = length-append inputs outputs in
+          let each = inputs_and_outputs [] items in
+          let statements = length-map pools.statements (item_of pools.numbers (trees pools.numbers pools.nodes)) in
+          omega (arith, r.few_scans, long, walked_all, front, back, each, statements, small);
       size =
           ap capped (let e : p.totals.size ≡ p.totals.size + 0 = omega arith in e)
           ∙ ap (λ l. capped (p.totals.size + sum_over job_size prices l)) (sym none) ∙ r.size;

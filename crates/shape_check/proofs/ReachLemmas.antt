@@ -7,6 +7,7 @@ use Rattle.std.proofs.lemmas.List.{length-map, map-append}
 use Rattle.std.proofs.lemmas.List.Sums.{sum_by-cons}
 use Rattle.std.proofs.lemmas.Map.Steps.{length-le_from_distinct_below}
 use Rattle.std.proofs.lemmas.Result.{IfErr-weaker, on_ok_weaker}
+use Rattle.shapes_core.specs.Limits.{most_items}
 use Rattle.shapes_core.specs.declared.area.AreaKind.TheVariants as area
 use Rattle.moa_tree.specs.declared.tree.Statement.{Statement}
 use Rattle.moa_tree.specs.Denotation.{scans_of}
@@ -232,6 +233,14 @@ any-below bound q (x ∷ xs) below h = elim (cases_eq q x) [
   | inl e ↦ omega (arith, e, below.0)
   | inr ne ↦ any-below bound q xs below.1 (sym (ap (λ t. t || list_any (eqb q) xs) (ne_eqb q x ne)) ∙ h)
 ]
+
+-- a program's walk has each node once, so with its statements it is no longer than a program may be
+pub walk_is_short : WalksOnce → WalksWithin → (pools : Pools) → IsProgram pools → length (walk pools) + length pools.statements ≤ most_items
+walk_is_short once inside pools program =
+    let below = inside pools program in
+    let short = length-le_from_distinct_below (walk pools) (length pools.nodes)
+    (distinct (length pools.nodes) (walk pools) below (λ n k. let e = once pools program n k in omega (arith, e))) (λ q h. any-below (length pools.nodes) q (walk pools) below h) in
+    omega (arith, short, program.few)
 
 -- what is walked up to a node's end is no more than there are nodes
 pub room_left : WalksOnce → WalksWithin → (pools : Pools) → IsProgram pools → (count : ℕ) (s : Statement) (number : ℕ)

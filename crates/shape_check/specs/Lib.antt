@@ -5,6 +5,7 @@ pub mod Examples
 pub mod Jobs
 pub mod Judged
 pub mod Kept
+pub mod KeptExamples
 pub mod Layout
 pub mod Limited
 pub mod Operated

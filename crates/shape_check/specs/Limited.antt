@@ -1,5 +1,5 @@
 -- What becomes of a surveyed program by the limits of the whole program. This project's own.
-use Rattle.std.specs.Prelude.{◌≡◌, ◌<◌, ◌^◌, ℕ, List, None, ⊤}
+use Rattle.std.specs.Prelude.{◌≡◌, ◌<◌, ◌^◌, ℕ, List, None}
 use Rattle.shapes_core.specs.Limits.{most_words}
 use Rattle.shapes_core.specs.declared.area.Area.{Area}
 use Rattle.moa_tree.specs.Pools.{Pools}

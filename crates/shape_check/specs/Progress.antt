@@ -1,6 +1,7 @@
 -- How far the check of a program has come: what was found of the statements so far, and that what is left gives the rest. This project's own.
 use Rattle.std.specs.Prelude.{◌≡◌, ℕ, suc, ◌+◌, ◌*◌, ◌≤◌, ◌⊎◌, true, false, List, [], ◌∷◌, ◌++◌, drop, length, map, take, None, Some, Err, Ok, Result, MatchResult, ⊤}
 use Rattle.std.specs.List.{flat_map, sum_by}
+use Rattle.shapes_core.specs.Limits.{most_items}
 use Rattle.shapes_core.specs.Shape.{total}
 use Rattle.shapes_core.specs.declared.area.AreaKind.TheVariants as area
 use Rattle.text_tokens.specs.declared.token.Position.{Position}
@@ -145,6 +146,7 @@ pub record Surveyed (pools : Pools) (progress : Progress) : Type 0 where
   pub nodes : shapes_at progress.shapes.items (walk pools) ≡ node_shapes (items_in pools)
   pub statements : progress.statement_shapes.items ≡ statement_shapes (items_in pools)
   pub jobs_in_order : progress.jobs.items ≡ map (pooled (walk pools)) (jobs (items_in pools))
+  pub few : length (arrays (items_in pools)) ≤ most_items
   pub arrays : progress.inputs.items ++ progress.outputs.items ++ progress.scans.items ≡ arrays (items_in pools)
   pub size : capped progress.totals.size ≡ capped (size (items_in pools))
   pub work : capped progress.totals.work ≡ capped (work (items_in pools))

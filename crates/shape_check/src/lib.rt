@@ -12,6 +12,7 @@ mod entries;
 mod error;
 mod expression;
 mod inventory;
+pub mod kept_examples;
 mod known;
 pub mod laws;
 mod layout;

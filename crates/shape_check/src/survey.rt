@@ -12,7 +12,7 @@ use crate::nodes::count_nodes;
 use crate::progress::Progress;
 use crate::statement::statement;
 use crate::totals::Totals;
-use moa_tree::Program;
+use moa_tree::{Program, walks_in_order};
 use shapes_core::{NoMemory, Shape};
 use std::alloc::Global;
 
@@ -76,6 +76,7 @@ pub(crate) fn survey(alloc: Global, program: &Program) -> Result<Progress, Check
     ensures surveyed { IfOk result (λ progress. Surveyed program.now progress) }
     ensures refused { IfErr result (λ error. Explains program.now error) }
 {
+    walks_in_order();
     let inventory = inventory_of(program);
     let shapes = table(alloc, count_nodes(program))?;
     go_over(alloc, program, inventory, nothing(alloc, shapes))

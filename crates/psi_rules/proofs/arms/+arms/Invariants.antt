@@ -1,4 +1,4 @@
-use Rattle.std.proofs.Common.{◌+◌, ◌*◌, length}
+use Rattle.std.proofs.Common.{◌+◌, ◌-◌, ◌*◌, length}
 use Rattle.std.specs.Prelude.{max}
 use Rattle.psi_rules.proofs.arms.+arms.Given as goal
 
@@ -13,7 +13,7 @@ abbrev pub decreases-one_form : goal.decreases-one_form
 decreases-one_form l = 1099511627776 * l.place.statement + 14 * l.of + 3
 
 abbrev pub decreases-pair_form : goal.decreases-pair_form
-decreases-pair_form l = 1099511627776 * l.place.statement + 14 * max l.left.0 l.right.0 + 3
+decreases-pair_form l = 1099511627776 * l.place.statement + 14 * max l.left l.right + 3
 
 abbrev pub decreases-reduce_form : goal.decreases-reduce_form
 decreases-reduce_form l = 1099511627776 * l.place.statement + 14 * l.of + 3
@@ -28,7 +28,7 @@ abbrev pub decreases-rotate_form : goal.decreases-rotate_form
 decreases-rotate_form l = 1099511627776 * l.place.statement + 14 * l.of + 3
 
 abbrev pub decreases-spread_form : goal.decreases-spread_form
-decreases-spread_form l = 1099511627776 * l.place.statement + 14 * l.of + 3 + length l.shape.now
+decreases-spread_form l = 1099511627776 * l.place.statement + 14 * l.of + 3 + (length l.shape.now - l.axis)
 
 abbrev pub decreases-offset_form : goal.decreases-offset_form
 decreases-offset_form l = 1099511627776 * l.place.statement + 14 * l.of + 10
@@ -62,3 +62,6 @@ decreases-two_form l = 1099511627776 * l.place.statement + 14 * max l.left l.rig
 
 abbrev pub decreases-outer_form : goal.decreases-outer_form
 decreases-outer_form l = 1099511627776 * l.place.statement + 14 * max l.left l.right + 4
+
+abbrev pub decreases-transpose_form : goal.decreases-transpose_form
+decreases-transpose_form l = 1099511627776 * l.place.statement + 14 * l.of + 3

@@ -1,16 +1,21 @@
 use Rattle.std.specs.Prelude.{[], Some}
-use Rattle.std.proofs.Common.{ap, arith, subst, sym, ◌∙◌}
+use Rattle.std.proofs.Common.{ap, arith, length, refl, subst, sym, ◌∙◌, ◌≡◌, ◌≤◌}
+use Rattle.shapes_core.specs.Limits.{most_axes}
 use Rattle.moa_tree.specs.Pools.{IsProgram}
-use Rattle.shape_check.specs.Judged.{items_in}
+use Rattle.shape_check.specs.Judged.{items_in, node_tree}
 use Rattle.shape_check.specs.Statements.{verdict_of}
 use Rattle.normal_form.specs.Kept.{IsForm, form_in}
 use Rattle.psi_rules.specs.Agrees.{IsFormOf}
 use Rattle.psi_rules.specs.Areas.{given, store}
+use Rattle.psi_rules.specs.Fitting.{IsReadyHere}
+use Rattle.psi_rules.specs.Numbered.{IsGoodTask, prices_at}
 use Rattle.psi_rules.specs.Jobs.{forms}
 use Rattle.psi_rules.specs.Reduced.{IsReduced}
-use Rattle.psi_rules.specs.Rules.{Names}
-use Rattle.psi_rules.specs.Scopes.{first_scan}
+use Rattle.psi_rules.specs.Rules.{Names, shape_in}
+use Rattle.psi_rules.specs.Scopes.{first_scan, names_at}
 use Rattle.psi_rules.specs.Tables.{IsReady, owner_at, scan_at}
+use Rattle.psi_rules.proofs.FitPartLemmas.{shape-few}
+use Rattle.psi_rules.proofs.FitTaskLemmas.{task-fits}
 use Rattle.psi_rules.proofs.JobLemmas.{accepted-shapes}
 use Rattle.psi_rules.proofs.ListLemmas.{zip-at}
 use Rattle.psi_rules.proofs.ReduceLemmas.{form-here, has-form, is-form, node-here, shape-here}
@@ -30,8 +35,37 @@ first_scan-scan-requires c =
     let areas = good.areas in
     omega (arith, areas, same)
 
-pub terms_of-requires : goal.terms_of-requires
-terms_of-requires c = (c.job_at-this.ensures.facts c.args.tables.now c.requires.tables).shaped.there
+pub terms_of-requires-clause-there : goal.terms_of-requires-clause-there
+terms_of-requires-clause-there c = (c.job_at-this.ensures.facts c.args.tables.now c.requires.tables).shaped.there
+
+pub terms_of-requires-clause-ready : goal.terms_of-requires-clause-ready
+terms_of-requires-clause-ready c =
+    let tables = c.args.tables.now in
+    subst (λ s. IsReadyHere c.args.checked.now tables s c.job_at-this.result.node) (sym c.owner_at-statement.ensures) (record {
+      nodes = (c.job_at-this.ensures.facts tables c.requires.tables).shaped;
+      scope = record { names_before = refl; meant = c.requires.tables.meant; known = c.requires.tables.known };
+    })
+
+pub terms_of-requires-clause-fits : goal.terms_of-requires-clause-fits
+terms_of-requires-clause-fits c =
+    let checking = c.args.checked.now in
+    let tables = c.args.tables.now in
+    let items = items_in checking.pools in
+    let job = c.job_at-this.result in
+    let statement = c.owner_at-statement.result in
+    let tree = node_tree checking.pools job.node in
+    let facts = c.job_at-this.ensures.facts tables c.requires.tables in
+    let owner = facts.owner in
+    let placed = c.first_scan-scan.ensures ∙ ap (λ s. first_scan (scan_at tables s) job.area job.fold) c.owner_at-statement.ensures ∙ facts.scan in
+    let here : owner.statement ≡ statement = sym (c.owner_at-statement.ensures ∙ facts.statement) in
+    let good = subst (λ s. IsGoodTask (names_at items s) (prices_at items s) (tree, c.first_scan-scan.result)) here
+    (subst (λ scan. IsGoodTask (names_at items owner.statement) (prices_at items owner.statement) (tree, scan)) (sym placed)
+    (subst (λ of. IsGoodTask (names_at items owner.statement) (prices_at items owner.statement) (of, owner.task.1)) (sym facts.tree)
+    (c.tasks_are_good.ensures c.args.job owner facts.owned_here))) in
+    let shape : c.shape_of-shape.result ≡ shape_in (names_at items statement) tree =
+    c.shape_of-shape.ensures ∙ facts.shaped.shape ∙ ap (λ s. shape_in (names_at items s) tree) (sym c.owner_at-statement.ensures) in
+    task-fits (λ s. (c.span_laws.ensures.no_extent_0 s).0) items statement c.first_scan-scan.result tree good
+    (subst (λ s. length s ≤ most_axes) shape (shape-few c.shape_of-shape.result c.extents-extents.ensures.shape))
 
 pub new-requires : goal.new-requires
 new-requires c =
@@ -45,7 +79,7 @@ new-requires c =
     let ok = accepted-shapes (verdict_of items) c.program.ensures.checked.accepted in
     let built = c.programs_are_built.ensures checking.pools program in
     let found = has-form c.jobs_are_tasks.ensures.forms c.jobs_are_tasks.ensures.shapes checking tables c.args.job job
-    (c.job_at-this.ensures.facts tables c.requires.tables) c.requires.tables.meant terms c.first_scan-scan.result
+    (c.job_at-this.ensures.facts tables c.requires.tables) c.requires.tables.meant c.requires.tables.known terms c.first_scan-scan.result
     (c.first_scan-scan.ensures ∙ ap (λ s. first_scan (scan_at tables s) job.area job.fold) c.owner_at-statement.ensures)
     (λ names ready. c.in_ok-terms.ensures.form names
     (subst (λ s. IsReady checking tables s names job.node) (sym c.owner_at-statement.ensures) ready))
@@ -72,12 +106,12 @@ returns-clause-reduced c =
     let shapes = c.jobs_are_tasks.ensures.shapes in
     subst (IsReduced checking c.args.job) (sym c.new.ensures) (record {
       job = c.job_at-this.ensures.listed;
-      node = node-here forms shapes checking tables c.args.job job facts c.requires.tables.meant terms c.first_scan-scan.result placed formed
+      node = node-here forms shapes checking tables c.args.job job facts c.requires.tables.meant c.requires.tables.known terms c.first_scan-scan.result placed formed
           c.jobs_are_tasks.ensures.tasks;
-      shape = shape-here forms shapes checking tables c.args.job job facts c.requires.tables.meant terms c.first_scan-scan.result placed formed
+      shape = shape-here forms shapes checking tables c.args.job job facts c.requires.tables.meant c.requires.tables.known terms c.first_scan-scan.result placed formed
           c.shape_of-shape.result c.shape_of-shape.ensures;
       whole = c.whole.ensures;
-      form = form-here forms shapes checking tables c.args.job job facts c.requires.tables.meant terms c.first_scan-scan.result placed formed;
+      form = form-here forms shapes checking tables c.args.job job facts c.requires.tables.meant c.requires.tables.known terms c.first_scan-scan.result placed formed;
     })
 
 pub returns-clause-meaning : goal.returns-clause-meaning

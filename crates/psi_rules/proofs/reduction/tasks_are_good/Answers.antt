@@ -17,5 +17,5 @@ returns c =
     let program = subst IsProgram c.program.ensures.value c.statements-statements.ensures.program in
     let ok = accepted-shapes (verdict_of items) c.program.ensures.checked.accepted in
     let same : length items ≡ length pools.statements = length-map pools.statements (item_of pools.numbers (trees pools.numbers pools.nodes)) in
-    let few : length items ≤ most_items = let all = program.few_statements in omega (arith, all, same) in
+    let few : length items ≤ most_items = let all = program.few in omega (arith, all, same) in
     owned-good c.operands_move.ensures known.lets known.outputs items ok.0 ok.1 few (known.limits items ok.0 ok.1).0

@@ -16,7 +16,7 @@ returns c = λ number item there.
     let program = subst IsProgram c.program.ensures.value c.statements-statements.ensures.program in
     let ok = accepted-shapes (verdict_of items) c.program.ensures.checked.accepted in
     let same : length items ≡ length pools.statements = length-map pools.statements (item_of pools.numbers (trees pools.numbers pools.nodes)) in
-    let few : length items ≤ most_items = let all = program.few_statements in omega (arith, all, same) in
+    let few : length items ≤ most_items = let all = program.few in omega (arith, all, same) in
     let areas = areas-at items number item few (c.verdicts_are_shapes.ensures.limits items ok.0 ok.1).0 there in
     record {
       input = let h = areas.input in omega (arith, h);

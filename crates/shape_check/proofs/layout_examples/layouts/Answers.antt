@@ -23,6 +23,7 @@ returns-clause-layout c = record {
   in_order = refl;
   differ = names-apart;
   packed = (refl, (refl, (refl, tt)));
+  few = omega arith;
   small = omega arith;
 }
 
@@ -34,6 +35,7 @@ returns-clause-nothing c = record {
   in_order = refl;
   differ = λ i j d less below. absurd (omega (arith, below));
   packed = tt;
+  few = omega arith;
   small = omega arith;
 }
 

@@ -5,12 +5,12 @@ use Rattle.shape_check.proofs.statement.statement.Goals as goal
 pub named-requires-clause-room : goal.named-requires-clause-room
 named-requires-clause-room c =
     let room = room_left c.walks_in_order.ensures.once c.walks_in_order.ensures.within c.args.program.now c.requires.program c.args.count _ c.in-Name.node c.in-Name.ensures refl in
-    omega (arith, room, c.requires.reached.1.few_scans, c.requires.program.few_nodes, c.requires.few, c.requires.fewer)
+    omega (arith, room, c.requires.reached.1.few_scans, c.requires.program.few, c.requires.few, c.requires.fewer)
 
 pub output-requires-clause-room : goal.output-requires-clause-room
 output-requires-clause-room c =
     let room = room_left c.walks_in_order.ensures.once c.walks_in_order.ensures.within c.args.program.now c.requires.program c.args.count _ c.in-Output.node c.in-Output.ensures refl in
-    omega (arith, room, c.requires.reached.1.few_scans, c.requires.program.few_nodes, c.requires.few, c.requires.fewer)
+    omega (arith, room, c.requires.reached.1.few_scans, c.requires.program.few, c.requires.few, c.requires.fewer)
 
 pub returns-in-Input-clause-reached : goal.returns-in-Input-clause-reached
 returns-in-Input-clause-reached c =

@@ -10,4 +10,4 @@ pub new-requires : goal.new-requires
 new-requires c =
     let e = sym c.self.view_is in
     let ReadsAsIs : Pools → Type 0 = λ pools. Reads (canonical (tree_of pools)) (tree_of pools) in
-    closed_program _ (subst (IsOpen [] []) e c.requires.closed) (subst ReadsAsIs e c.requires.reads) c.self.invariant.0 c.self.invariant.1 c.self.invariant.2
+    closed_program _ (subst (IsOpen [] []) e c.requires.closed) (subst ReadsAsIs e c.requires.reads) c.self.invariant

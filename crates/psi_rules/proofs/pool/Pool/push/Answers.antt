@@ -1,4 +1,4 @@
-use Rattle.std.proofs.Common.{◌≡◌, ◌∙◌, ◌<◌, ◌++◌, ◌∷◌, [], ap, sym, subst, length, arith}
+use Rattle.std.proofs.Common.{◌≡◌, ◌∙◌, ◌<◌, ◌++◌, ◌∷◌, [], ap, sym, subst, length, arith, length-append}
 use Rattle.std.specs.List.{AllByRecursion}
 use Rattle.normal_form.specs.Pool.{operands}
 use Rattle.psi_rules.specs.Building.{Adds, IsPool, IsThere}
@@ -7,9 +7,10 @@ use Rattle.psi_rules.proofs.pool.Pool.push.Goals as goal
 
 pub invariant_of-self-2 : goal.invariant_of-self-2
 invariant_of-self-2 c =
+    let terms = ap (λ b. b.terms) c.self.view_is in
     subst IsPool (sym c.in_ok-push_term.ensures.added)
-    (pool-grown c.self.inside.terms.items c.args.term c.self.invariant (omega (arith, c.if-len-ge-MOST_ITEMS.false, c.len.ensures))
-    (subst (λ terms. AllByRecursion (λ operand. operand < length terms) (operands c.args.term)) (sym (ap (λ b. b.terms) c.self.view_is)) c.requires))
+    (pool-grown c.self.inside.terms.items c.args.term c.self.invariant (omega (arith, c.requires.room, ap length terms))
+    (subst (λ list. AllByRecursion (λ operand. operand < length list) (operands c.args.term)) (sym terms) c.requires.operands))
 
 pub returns : goal.returns
 returns c =
@@ -17,7 +18,9 @@ returns c =
     let terms = ap (λ b. b.terms) c.self.view_is in
     let number : c.len-number.result ≡ length old.terms = omega (arith, c.len-number.ensures, ap length terms) in
     let more = c.in_ok-push_term.ensures.added ∙ ap (λ l. l ++ c.args.term ∷ []) terms in
+    let next = ap (λ b. b.next) c.self.view_is in
     record {
-      adds = λ form same. subst (Adds form old _) (sym number) (added old _ c.args.term form more (ap (λ b. b.next) c.self.view_is) same);
+      adds = λ form same. subst (Adds form old _) (sym number) (added old _ c.args.term form more next same);
       there = subst (IsThere old _) (sym number) (term-there old _ c.args.term more);
+      one = omega (arith, next, ap length more, length-append old.terms (c.args.term ∷ []));
     }
