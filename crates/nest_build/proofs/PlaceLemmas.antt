@@ -7,7 +7,8 @@ use Rattle.shapes_core.specs.declared.area.Area.{Area}
 use Rattle.shapes_core.specs.Shape.{total}
 use Rattle.normal_form.specs.Moves.{variable, variables}
 use Rattle.stride_form.specs.declared.access.Access.{Access}
-use Rattle.stride_form.specs.Accesses.{Walk, walk_of, with_entry, with_stride}
+use Rattle.stride_form.specs.declared.walk.Walk.{Walk}
+use Rattle.stride_form.specs.Accesses.{walk_of, with_entry, with_stride}
 use Rattle.nest_build.specs.Coding.{weights_from}
 use Rattle.nest_build.specs.Nests.{own_access, start_of}
 

@@ -15,7 +15,8 @@ use Rattle.normal_form.specs.declared.entry.Entry.{Entry}
 use Rattle.normal_form.specs.declared.entry.Entry.TheVariants.{At, Plus, Minus}
 use Rattle.normal_form.specs.Assignments.{Assignment, number}
 use Rattle.normal_form.specs.Forms.{Lit, Index, Get, Un, Bin, Case, Fold, Let}
-use Rattle.normal_form.specs.Kept.{IsEntry, greatest_constant}
+use Rattle.normal_form.specs.Constants.{greatest_constant}
+use Rattle.normal_form.specs.Kept.{IsEntry}
 use Rattle.normal_form.specs.Meaning.{Store, meaning}
 use Rattle.stride_form.specs.declared.access.Access.{Access}
 use Rattle.stride_form.specs.Accesses.{access_value, place_of}

@@ -12,3 +12,4 @@ mod SizeLemmas
 mod SourceLemmas
 mod StepLemmas
 mod StraightLemmas
+mod UnboundLemmas

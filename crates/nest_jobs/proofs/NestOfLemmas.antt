@@ -3,7 +3,7 @@ use Rattle.std.specs.Prelude.{◌≡◌, ℕ, ◌+◌, ◌*◌, ◌≤◌, true,
 use Rattle.std.specs.List.{AllByRecursion, fold}
 use Rattle.std.specs.declared.option.Option.{Option}
 use Rattle.std.specs.declared.option.Option.TheVariants.{None, Some}
-use Rattle.std.proofs.Common.{refl, ap, sym, subst, arith}
+use Rattle.std.proofs.Common.{refl, ap, sym, subst, ◌∙◌, arith}
 use Rattle.std.proofs.lemmas.Bool.{false≢true}
 use Rattle.shapes_core.specs.declared.area.Area.{Area}
 use Rattle.moa_tree.specs.Denotation.{Store as Lists}
@@ -29,15 +29,22 @@ use Rattle.nest_jobs.proofs.ListLemmas.{each-at, each-from}
 use Rattle.nest_jobs.proofs.OutputLemmas.{arrays-due, forms-due, plain-cut}
 use Rattle.nest_jobs.proofs.ShapeLemmas.{AreShapes, IsShaped, dues-shaped, shape_at}
 use Rattle.nest_jobs.proofs.SizeLemmas.{one-cost}
+use Rattle.nest_jobs.proofs.UnboundLemmas.{RuleLaw, straight-stays}
 
 -- ---- nests
 
-nest-of-form : (areas : List Area) (own : ℕ) (here shape : List ℕ) (form : Option Normal) → here ≡ shape
+nest-of-form : RuleLaw → (areas : List Area) (own : ℕ) (here shape : List ℕ) (form : Option Normal) → here ≡ shape
     → ((made : Normal) → form ≡ Some made → IsBuildable areas own shape (map (λ n. (0, n)) shape) (operational made))
     → IsNestOf areas form shape (nest_at areas own here form)
-nest-of-form areas own here shape None same built = refl
-nest-of-form areas own here shape (Some form) same built =
-    (own, ap (λ s. nest_of areas own s (map (λ n. (0, n)) s) (operational form)) same, built form refl)
+nest-of-form rules areas own here shape None same built = refl
+nest-of-form rules areas own here shape (Some form) same built =
+    let region : List (ℕ × ℕ) = map (λ n. (0, n)) shape in
+    let can = built form refl in (
+      own,
+      ap (λ s. nest_at areas own s (Some form)) same
+          ∙ ap (nest_of areas own shape region) (straight-stays rules region form can.straight),
+      can,
+    )
 
 abbrev IsDueNest : List Area → Due → Type 0
 IsDueNest areas due = IsNestOf areas (form_of due) (array_of due).shape (due_nest areas due)
@@ -47,14 +54,14 @@ dues-nests : (areas : List Area) (list : List Due) → AllByRecursion (IsDueNest
 dues-nests areas [] h = tt
 dues-nests areas (due ∷ others) h = (h.0, dues-nests areas others h.1)
 
-module _ (block : BlockLaws) (inputs : Lists) (items : List Item) (plain : ArePlain items) where
+module _ (rules : RuleLaw) (block : BlockLaws) (inputs : Lists) (items : List Item) (plain : ArePlain items) where
   due-nests : AreShapes (fold shapes_after [] items) → AreBuildable inputs items
       → AllByRecursion (IsDueNest (areas items)) (dues inputs items)
   due-nests shapes built =
       let known = map (λ area. area.shape) (areas items) in
       each-from (IsDueNest (areas items)) (dues inputs items) (λ number due e.
       let shaped = each-at (IsShaped known) (dues inputs items) (dues-shaped block inputs items shapes) number due e in
-      nest-of-form (areas items) due.scene.next.output (shape_at due) (array_of due).shape (form_of due)
+      nest-of-form rules (areas items) due.scene.next.output (shape_at due) (array_of due).shape (form_of due)
       (sym (ap (λ s. shape_of s due.of) shaped.alike.0)) (due-built inputs items plain built number due e))
 
   pub nests-of-forms : AreShapes (fold shapes_after [] items) → AreBuildable inputs items

@@ -3,7 +3,7 @@ use Rattle.std.specs.Prelude.{◌≡◌, ◌≢◌, ℕ, zero, suc, ◌+◌, ◌
 use Rattle.std.specs.List.{AllByRecursion}
 use Rattle.std.specs.declared.option.Option.{Option}
 use Rattle.std.specs.declared.option.Option.TheVariants.{None, Some}
-use Rattle.std.proofs.Common.{refl, ap, ap₂, sym, ◌∙◌, arith, append_assoc, inl, inr}
+use Rattle.std.proofs.Common.{refl, ap, ap₂, sym, subst, ◌∙◌, arith, append_assoc, inl, inr}
 use Rattle.std.proofs.lemmas.Bool.{and_parts, false≢true}
 use Rattle.std.proofs.lemmas.List.{ext_get_or}
 use Rattle.std.proofs.lemmas.List.FromFn.{get_or-map-range_with_len, length-map-range_with_len}
@@ -28,6 +28,7 @@ use Rattle.nest_jobs.specs.Leads.{area_values, nest_at}
 use Rattle.nest_jobs.proofs.BeforeLemmas.{LoadsBefore}
 use Rattle.nest_jobs.proofs.BuildLemmas.{index-whole, whole-index}
 use Rattle.nest_jobs.proofs.ListLemmas.{each-append, each-both, each-cut}
+use Rattle.nest_jobs.proofs.UnboundLemmas.{RuleLaw, straight-stays}
 
 -- ---- the words of an area
 
@@ -101,7 +102,7 @@ inside-both areas before middle after h k = record {
 
 -- ---- jobs
 
--- what nests do, and which index vectors offsets have
+-- what nests do, which index vectors offsets have, and what the rules change
 pub record NestLaws : Type 0 where
   pub gives : (areas : List Area) (own : ℕ) (shape : List ℕ) (region : List (ℕ × ℕ)) (form : Operational) (state : State)
       → AreLaidOut areas (length state.words) → IsBuildable areas own shape region form
@@ -112,6 +113,7 @@ pub record NestLaws : Type 0 where
   pub is_index : (shape : List ℕ) (offset : ℕ) → offset < total shape → IsIndex (ungamma shape offset) shape
   pub of_ungamma : (shape : List ℕ) (offset : ℕ) → offset < total shape → gamma (ungamma shape offset) shape ≡ offset
   pub below : (index shape : List ℕ) → IsIndex index shape → gamma index shape < total shape
+  pub rules : RuleLaw
 
 module _ (areas : List Area) (lists : List (List ℤ)) where
   abbrev pub held : Store
@@ -248,7 +250,10 @@ module _ (areas : List Area) (lists : List (List ℤ)) where
           inside = inside-none areas state.trace;
         }
     choice-leads own shape (Some form) state area laid there shaped long holds meant =
-        form-leads own shape form state area laid there shaped long holds meant
+        let region : List (ℕ × ℕ) = map (λ n. (0, n)) shape in
+        subst (λ (of : Operational). IsLed (suc own) state (run (nest_of areas own shape region of) state))
+        (sym (straight-stays laws.rules region form meant.built.straight))
+        (form-leads own shape form state area laid there shaped long holds meant)
 
     pub job-leads : (own : ℕ) (shape : List ℕ) (form : Option Normal) (state : State) → AreLaidOut areas (length state.words)
         → HoldBefore own state.words → IsJob own shape form → IsLed (suc own) state (run (nest_at areas own shape form) state)

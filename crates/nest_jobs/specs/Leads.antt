@@ -15,7 +15,7 @@ use Rattle.normal_form.specs.Forms.{Normal}
 use Rattle.psi_rules.specs.Areas.{area_lists}
 use Rattle.psi_rules.specs.Jobs.{forms}
 use Rattle.psi_rules.specs.Scopes.{job_shapes}
-use Rattle.stride_form.specs.Operational.{operational}
+use Rattle.stride_form.specs.Rules.{operational_on}
 use Rattle.loop_ir.specs.Running.{State}
 use Rattle.loop_ir.specs.Steps.{Steps, End}
 use Rattle.nest_build.specs.Gives.{AddsInside}
@@ -26,7 +26,9 @@ use Rattle.nest_build.specs.Nests.{nest_of}
 -- the nest of a job in this area, with an array of this shape: on all index vectors of the array, and none where the job has no form
 abbrev pub nest_at : List Area → ℕ → List ℕ → Option Normal → Steps
 nest_at areas own shape None = End
-nest_at areas own shape (Some form) = nest_of areas own shape (map (λ n. (0, n)) shape) (operational form)
+nest_at areas own shape (Some form) =
+    let region : List (ℕ × ℕ) = map (λ n. (0, n)) shape in
+    nest_of areas own shape region (operational_on region form)
 
 -- those of these jobs, with the shapes of their arrays and their forms
 abbrev pub nests_of : List Area → List TreeJob → List (List ℕ) → List (Option Normal) → List Steps

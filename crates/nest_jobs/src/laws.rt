@@ -14,6 +14,7 @@ ghost use Rattle.psi_rules.specs.Areas.{Given, given};
 ghost use Rattle.psi_rules.specs.Jobs.{forms};
 ghost use Rattle.psi_rules.specs.Scopes.{job_shapes};
 ghost use Rattle.stride_form.specs.Operational.{operational};
+ghost use Rattle.stride_form.specs.Rules.{operational_on};
 ghost use Rattle.nest_build.specs.Bounds.{terms};
 ghost use Rattle.nest_build.specs.Gives.{AreLaidOut, IsBuildable};
 ghost use Rattle.nest_build.specs.Parts.{accesses, is_straight};
@@ -29,6 +30,7 @@ use psi_rules::loading_laws::forms_load;
 use psi_rules::task_laws::jobs_are_tasks;
 use shape_check::laws::{lists_are_totals, verdicts_are_shapes};
 use shapes_core::laws::span_laws;
+use stride_form::binding_laws::rules_are_about_bindings;
 use stride_form::laws::places_are_offsets;
 
 /// What is known of the block of a program and of the shapes in it.
@@ -47,6 +49,16 @@ fn plain_forms_are_straight()
         → slice_get (forms items) number ≡ Some (Some form)
         → is_straight (operational form) ≡ true }
 {}
+
+/// The rules change nothing in the form of each job of a plain program.
+pub fn rules_leave_plain_forms()
+    ensures { (items : List Item) (number : ℕ) (form : Normal) (region : List (ℕ × ℕ)) → ArePlain items
+        → slice_get (forms items) number ≡ Some (Some form)
+        → operational_on region form ≡ operational form }
+{
+    plain_forms_are_straight();
+    rules_are_about_bindings();
+}
 
 /// The areas of a program are laid out: each lies in the words of them all, and no word is
 /// of two areas.

@@ -17,6 +17,7 @@ use nest_build::laws::nests_give;
 use psi_rules::laws::jobs_give;
 use shape_check::laws::{lists_are_totals, verdicts_are_shapes};
 use shapes_core::laws::gamma_laws;
+use stride_form::binding_laws::rules_are_about_bindings;
 use stride_form::laws::meaning_is_kept;
 
 /// The nests of a plain accepted program, one after another, leave in the area of each input its
@@ -38,4 +39,5 @@ pub fn programs_lead()
     verdicts_are_shapes();
     gamma_laws();
     meaning_is_kept();
+    rules_are_about_bindings();
 }

@@ -21,6 +21,7 @@ ghost use Rattle.nest_jobs.specs.Sources.{AreNestsOf, EachPasses, form_passes};
 
 use crate::laws::{block_laws, forms_are_buildable};
 use shape_check::laws::verdicts_are_shapes;
+use stride_form::binding_laws::rules_are_about_bindings;
 
 /// The operators and numbers in the forms of a plain program are those of its source, and 0: tests
 /// that these pass are passed by each form.
@@ -40,6 +41,7 @@ pub fn nests_are_of_forms()
 {
     block_laws();
     forms_are_buildable();
+    rules_are_about_bindings();
     verdicts_are_shapes();
 }
 

@@ -5,9 +5,10 @@ use Rattle.shapes_core.specs.Limits.{greatest_extent}
 use Rattle.moa_tree.specs.declared.operator.Op.{Op}
 use Rattle.normal_form.specs.declared.entry.Entry.{Entry}
 use Rattle.normal_form.specs.declared.entry.Entry.TheVariants.{At}
+use Rattle.normal_form.specs.Cutting.{Scope}
 use Rattle.normal_form.specs.Formers.{Making, folding}
-use Rattle.normal_form.specs.Keeps.{AreEarlier, AreWithin, Keeps}
-use Rattle.normal_form.specs.Kept.{IsFoldOperator, IsKept}
+use Rattle.normal_form.specs.Keeps.{AreEarlier, AreWithin, IsKeptIn, Keeps}
+use Rattle.normal_form.specs.Kept.{IsFoldOperator}
 use Rattle.normal_form.specs.Moves.{variable}
 use Rattle.normal_form.proofs.KeepLemmas.{earlier-fresh, earlier-next, entries-extend, extends-next, variable-within}
 
@@ -22,27 +23,20 @@ folding-rises own room op (suc n) item shape h entries next = omega (arith, h.gr
 
 folding-keeps : (own room : ℕ) (op : Op) (n : ℕ) (item : List Entry → Entry → Making) (shape : List ℕ)
     → IsFoldOperator op → n ≤ greatest_extent → KeptItems own room item n shape
-    → (known : List ℕ) (next : ℕ) (entries : List Entry) → AreEarlier next known → AreWithin room known entries shape
-    → IsKept own known (folding op n (item entries) next).0
-folding-keeps own room op zero item shape folds least h known next entries earlier within = tt
-folding-keeps own room op (suc n) item shape folds least h known next entries earlier within =
-    let some : 0 < suc n = omega arith in (
-      folds,
-      (
-        some,
-        (
-          least,
-          (
-            earlier-fresh next known earlier,
-            h.keeps (next ∷ known) (suc next) (variable next ∷ entries) (earlier-next next known earlier) (
-              variable-within room next known (suc n) some,
-              entries-extend room known (next ∷ known) entries shape
-                  (extends-next next known) within,
-            ),
-          ),
-        ),
-      ),
-    )
+    → (scope : Scope) (next : ℕ) (entries : List Entry) → AreEarlier next scope → AreWithin room scope entries shape
+    → IsKeptIn own scope (folding op n (item entries) next).0
+folding-keeps own room op zero item shape folds least h scope next entries earlier within = record { kept = tt; varying = tt; roomy = tt }
+folding-keeps own room op (suc n) item shape folds least h scope next entries earlier within =
+    let some : 0 < suc n = omega arith in
+    let made = h.keeps ((next, 0) ∷ scope) (suc next) (variable next ∷ entries) (earlier-next next 0 scope earlier) (
+      variable-within room next 0 scope (suc n) some (omega arith),
+      entries-extend room scope ((next, 0) ∷ scope) entries shape (extends-next next 0 scope earlier) within,
+    ) in
+    record {
+      kept = (folds, (some, (least, (earlier-fresh next scope earlier, made.kept))));
+      varying = made.varying;
+      roomy = made.roomy;
+    }
 
 pub fold-keeps : (own room : ℕ) (op : Op) (n : ℕ) (item : List Entry → Entry → Making) (shape : List ℕ)
     → IsFoldOperator op → n ≤ greatest_extent → KeptItems own room item n shape

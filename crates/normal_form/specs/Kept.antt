@@ -1,9 +1,9 @@
 -- What a form keeps: facts of each term, also of one that is never reached, and that nothing is wrong where it is reached. This project's own.
-use Rattle.std.specs.Prelude.{◌≡◌, ◌≢◌, ℕ, ◌+◌, ◌-◌, ◌*◌, ◌<◌, ◌≤◌, ◌⊎◌, ℤ, pos, negsuc, List, [], ◌∷◌, length, map, IsSome, unsigned_abs, ⊤}
+use Rattle.std.specs.Prelude.{◌≡◌, ◌≢◌, ℕ, ◌+◌, ◌-◌, ◌<◌, ◌≤◌, ◌⊎◌, ℤ, pos, negsuc, List, [], ◌∷◌, length, map, IsSome, unsigned_abs, ⊤}
 use Rattle.std.specs.List.{AllByRecursion, AllZip, Contains, range_with_len}
 use Rattle.std.specs.declared.option.Option.{Option}
 use Rattle.std.specs.declared.option.Option.TheVariants.{None, Some}
-use Rattle.shapes_core.specs.Limits.{greatest_extent, greatest_size, most_items}
+use Rattle.shapes_core.specs.Limits.{greatest_extent, most_items}
 use Rattle.shapes_core.specs.Shape.{IsShape, total}
 use Rattle.moa_tree.specs.declared.operator.Op.{Op}
 use Rattle.moa_tree.specs.declared.tree.Job.{Job}
@@ -14,16 +14,14 @@ use Rattle.normal_form.specs.declared.term.Bind.{Bind}
 use Rattle.normal_form.specs.declared.term.Bind.TheVariants.{Turn, Flat, Digit}
 use Rattle.normal_form.specs.declared.term.Term.{Term}
 use Rattle.normal_form.specs.Assignments.{assigned}
+use Rattle.normal_form.specs.Constants.{greatest_constant}
+use Rattle.normal_form.specs.Cutting.{IsRoomy, IsVarying, terms_in}
 use Rattle.normal_form.specs.Forms.{Lit, Index, Get, Un, Bin, Case, Fold, Let, Normal}
 use Rattle.normal_form.specs.Meaning.{Reached}
 use Rattle.normal_form.specs.Pool.{form_at, forms, operands}
 use Rattle.normal_form.specs.Stands.{IsFine}
 
 -- ---- each term
-
--- the greatest constant beside a variable: a program has at most 1024 nodes, and each adds at most an extent
-abbrev pub greatest_constant : ℕ
-greatest_constant = greatest_size * greatest_extent
 
 -- an entry among these variables: a constant is a place among n, and one beside a variable is small
 abbrev pub IsEntry : List ℕ → Entry → ℕ → Type 0
@@ -112,6 +110,9 @@ pub record IsNormal (parts : Parts) : Type 0 where
   pub few : length parts.terms ≤ most_items
   pub ordered : AreOrdered 0 parts.terms
   pub kept : IsKept parts.job.area (job_variables parts.shape) (top_form parts.terms)
+  pub varying : IsVarying (top_form parts.terms)
+  pub roomy : IsRoomy [] (top_form parts.terms)
+  pub tree : terms_in (top_form parts.terms) ≤ length parts.terms
   pub fine : (index : List ℕ) → IsInBox index parts.region → Reached IsFine (assigned index) (top_form parts.terms)
 
 -- the empty form of a job whose array has no element: its box is the whole shape

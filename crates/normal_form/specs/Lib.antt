@@ -1,4 +1,6 @@
 pub mod Assignments
+pub mod Constants
+pub mod Cutting
 pub mod Formers
 pub mod Forms
 pub mod Moves

@@ -11,7 +11,8 @@ ghost use Rattle.normal_form.specs.declared.entry.Entry.TheVariants.{At};
 ghost use Rattle.normal_form.specs.Formers.{Former, Making, folding, joining, just, on_both, on_one, reshaping, turning};
 ghost use Rattle.normal_form.specs.Forms.{Lit, Index, Get, Un, Bin};
 ghost use Rattle.normal_form.specs.Keeps.{Keeps, MovesWithin};
-ghost use Rattle.normal_form.specs.Kept.{IsFoldOperator, greatest_constant};
+ghost use Rattle.normal_form.specs.Constants.{greatest_constant};
+ghost use Rattle.normal_form.specs.Kept.{IsFoldOperator};
 ghost use Rattle.normal_form.specs.Moves.{behind_entry};
 
 use shapes_core::laws::{equality_is_exact, gamma_laws, span_laws};
@@ -38,11 +39,12 @@ pub fn operators_keep()
         → Keeps own room (λ entries. on_both (Bin op) (left entries) (right entries)) shape }
 {}
 
-/// A turn of the first axis.
+/// A turn of the first axis: the variable that is bound carries the extent beside what its entry
+/// reaches.
 pub fn turns_keep()
     ensures { (own room : ℕ) (by : ℤ) (of : Former) (n : ℕ) (shape : List ℕ)
         → room ≤ greatest_constant → n ≤ greatest_extent
-        → Keeps own room of (n ∷ shape)
+        → Keeps own (room + greatest_extent) of (n ∷ shape)
         → Keeps own room
         (λ entries. turning (turned by n 0) n (slice_index_or entries 0 (At (pos 0)))
         (λ entry. of (on_axis 0 (λ extent old. entry) (n ∷ shape) entries)))

@@ -19,7 +19,8 @@ use Rattle.normal_form.specs.Kept.{Parts, form_in}
 use Rattle.psi_rules.specs.Jobs.{forms}
 use Rattle.psi_rules.specs.Reduced.{IsReduced}
 use Rattle.psi_rules.specs.Scopes.{job_shapes}
-use Rattle.stride_form.specs.Operational.{Operational, operational}
+use Rattle.stride_form.specs.Operational.{Operational}
+use Rattle.stride_form.specs.Rules.{operational_on}
 use Rattle.nest_build.specs.Nests.{nest_of as built}
 use Rattle.nest_jobs.specs.Leads.{nest_at, nests, nests_of}
 use Rattle.loop_ir.specs.declared.step.Step.{Step}
@@ -52,15 +53,15 @@ nest-there areas (j ∷ jobs) (s ∷ shapes) (f ∷ forms) (suc k) job shape for
 -- what is built of an operational form, if there is one
 pub built-for : {E : Type 0} (r : Result (List (List Step)) E) (areas : List Area) (own : ℕ) (shape : List ℕ) (region : List (ℕ × ℕ))
     (o : Option Operational)
-    (form : Option Normal) → region ≡ map (λ n. (0, n)) shape → o ≡ option_map operational form
+    (form : Option Normal) → region ≡ map (λ n. (0, n)) shape → o ≡ option_map (operational_on region) form
     → ((of : Operational) → o ≡ Some of → IfOk r (λ nest. tree nest ≡ built areas own shape region of))
     → (o ≡ None → IfOk r (λ nest. tree nest ≡ End)) → IfOk r (λ nest. tree nest ≡ nest_at areas own shape form)
 built-for r areas own shape region o None whole same straight empty = empty same
 built-for r areas own shape region o (Some form) whole same straight empty =
-    IfOk-weaker r (λ nest. tree nest ≡ built areas own shape region (operational form))
+    IfOk-weaker r (λ nest. tree nest ≡ built areas own shape region (operational_on region form))
     (λ nest. tree nest ≡ nest_at areas own shape (Some form))
-    (λ nest e. e ∙ ap (λ (box : List (ℕ × ℕ)). built areas own shape box (operational form)) whole)
-    (straight (operational form) same)
+    (λ nest e. e ∙ ap (λ (box : List (ℕ × ℕ)). built areas own shape box (operational_on box form)) whole)
+    (straight (operational_on region form) same)
 
 -- it is the nest of the job of this number
 pub nest-of-job : (checking : Checking) (number : ℕ) (parts : Parts) → IsChecked checking → IsReduced checking number parts

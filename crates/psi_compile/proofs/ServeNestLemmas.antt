@@ -9,7 +9,8 @@ use Rattle.moa_tree.specs.Expr.{Expr, Scan, Item, Input, Let, Output}
 use Rattle.moa_tree.specs.Subexpressions.{subexpressions_of}
 use Rattle.normal_form.specs.Forms.{Normal}
 use Rattle.shape_check.specs.Jobs.{TreeJob, jobs_from, output_jobs, scan_jobs}
-use Rattle.stride_form.specs.Operational.{Operational, operational}
+use Rattle.stride_form.specs.Operational.{Operational}
+use Rattle.stride_form.specs.Rules.{operational_on}
 use Rattle.loop_ir.specs.Running.{Access as Touch, ReadsWord, State, WritesWord, run, run_all}
 use Rattle.loop_ir.specs.Steps.{Steps}
 use Rattle.nest_build.specs.Bounds.{AddsOwn, IsOwnWrite}
@@ -66,7 +67,8 @@ low-one : WritesOwn → (low : ℕ) (areas : List Area) (own : ℕ) (shape : Lis
     → AddsLow low state.trace (run (nest_at areas own shape form) state).trace
 low-one law low areas own shape None state from = low-none low state.trace
 low-one law low areas own shape (Some form) state from =
-    let h = law areas own shape (map (λ n. (0, n)) shape) (operational form) state in
+    let region : List (ℕ × ℕ) = map (λ n. (0, n)) shape in
+    let h = law areas own shape region (operational_on region form) state in
     record { more = h.more; same = h.same; each = each-follows (IsOwnWrite own) (IsLowWrite low) (low-write low own from) h.more h.each }
 
 abbrev pub IsFrom : ℕ → TreeJob → Type 0

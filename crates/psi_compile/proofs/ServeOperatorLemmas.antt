@@ -16,7 +16,8 @@ use Rattle.shape_check.specs.Jobs.{TreeJob, jobs}
 use Rattle.shape_check.specs.Layout.{areas}
 use Rattle.psi_rules.specs.Jobs.{forms}
 use Rattle.psi_rules.specs.Scopes.{job_shapes}
-use Rattle.stride_form.specs.Operational.{Operational, operational}
+use Rattle.stride_form.specs.Operational.{Operational}
+use Rattle.stride_form.specs.Rules.{operational_on}
 use Rattle.loop_ir.specs.Steps.{Action, Set, Copy, One, Two, Place, Spot, Walk, Read, Write, Steps, End, Then, For, If, joined}
 use Rattle.nest_build.specs.Nests.{Spot as Seat, all_loops, counted_by, indexed, inner_loops, listed, made_of, nest_of, own_access}
 use Rattle.nest_build.specs.Nests.{sets_from, spots_from, walk_by, walks, stride_along}
@@ -162,17 +163,19 @@ module _ (test : Op → Bool) where
         (made-passes loops (low_of region) free literal place form h) (tt, tt)))))
 
     pub nests-pass : (areas : List Area) (jobs : List TreeJob) (shapes : List (List ℕ)) (list : List (Option Normal))
-        → ((number : ℕ) (form : Normal) → slice_get list number ≡ Some (Some form) → FormPasses (operational form))
+        → ((number : ℕ) (form : Normal) (region : List (ℕ × ℕ)) → slice_get list number ≡ Some (Some form)
+        → FormPasses (operational_on region form))
         → AllByRecursion Passes (nests_of areas jobs shapes list)
     nests-pass areas [] shapes list h = tt
     nests-pass areas (job ∷ jobs) [] list h = tt
     nests-pass areas (job ∷ jobs) (shape ∷ shapes) [] h = tt
     nests-pass areas (job ∷ jobs) (shape ∷ shapes) (None ∷ list) h =
-        (tt, nests-pass areas jobs shapes list (λ number form e. h (suc number) form e))
-    nests-pass areas (job ∷ jobs) (shape ∷ shapes) (Some form ∷ list) h = (
-      nest-passes areas job.job.area shape (map (λ n. (0, n)) shape) (operational form) (h 0 form refl),
-      nests-pass areas jobs shapes list (λ number other e. h (suc number) other e),
-    )
+        (tt, nests-pass areas jobs shapes list (λ number form region e. h (suc number) form region e))
+    nests-pass areas (job ∷ jobs) (shape ∷ shapes) (Some form ∷ list) h =
+        let region : List (ℕ × ℕ) = map (λ n. (0, n)) shape in (
+          nest-passes areas job.job.area shape region (operational_on region form) (h 0 form region refl),
+          nests-pass areas jobs shapes list (λ number other box e. h (suc number) other box e),
+        )
 
 -- ---- steady nests, and those of the base instruction set
 
@@ -217,12 +220,12 @@ zip-passes test P f [] homes h = refl
 zip-passes test P f (nest ∷ list) [] h = refl
 zip-passes test P f (nest ∷ list) (given ∷ homes) h = rw (f nest h.0, zip-passes test P f list homes h.1) refl
 
--- the operators in the forms of a plain program are those of its source
+-- the operators in the forms of a plain program are those of its source, on each region
 abbrev pub TakesOperators : Type 0
 TakesOperators =
     (test : Op → Bool) (items : List Item) → ArePlain items
     → AllByRecursion (λ expr. uses test expr ≡ true) (flat_map subexpressions_of items) → (number : ℕ) (form : Normal)
-    → slice_get (forms items) number ≡ Some (Some form) → FormPasses test (operational form)
+    (region : List (ℕ × ℕ)) → slice_get (forms items) number ≡ Some (Some form) → FormPasses test (operational_on region form)
 
 pub steady-nests : TakesOperators → (items : List Item) (homes : List Given) → ArePlain items
     → AllByRecursion (λ expr. uses is_steady_op expr ≡ true) (flat_map subexpressions_of items)

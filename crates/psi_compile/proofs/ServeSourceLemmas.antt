@@ -1,13 +1,14 @@
 -- That forms take their operators from the source, from the law on operators and numbers.
 use Rattle.std.specs.Prelude.{◌≡◌, ℕ, Bool, true, ◌&&◌, ℤ, pos, List, slice_get, Some}
 use Rattle.std.specs.List.{flat_map}
-use Rattle.std.proofs.Common.{refl}
+use Rattle.std.proofs.Common.{refl, subst, sym}
 use Rattle.moa_tree.specs.declared.operator.Op.{Op}
 use Rattle.moa_tree.specs.Expr.{Expr, Two, Outer, Item}
 use Rattle.moa_tree.specs.Subexpressions.{subexpressions_of}
 use Rattle.normal_form.specs.Forms.{Un, Bin, Normal}
 use Rattle.psi_rules.specs.Jobs.{forms}
 use Rattle.stride_form.specs.Operational.{Operational, operational}
+use Rattle.stride_form.specs.Rules.{operational_on}
 use Rattle.nest_jobs.specs.Plain.{ArePlain}
 use Rattle.nest_jobs.specs.Sources.{EachPasses, form_passes, passes}
 use Rattle.psi_compile.specs.Compiled.{uses}
@@ -38,9 +39,16 @@ TakeFromSources =
     → EachPasses op_test number_test items → number_test (pos 0) ≡ true → slice_get (forms items) number ≡ Some (Some form)
     → form_passes op_test number_test (operational form) ≡ true
 
-pub takes-operators : TakeFromSources → TakesOperators
-takes-operators law test items plain used number form e =
-    form-pass test (operational form)
+-- and the rules change nothing in these forms
+abbrev pub LeavePlainForms : Type 0
+LeavePlainForms =
+    (items : List Item) (number : ℕ) (form : Normal) (region : List (ℕ × ℕ)) → ArePlain items
+    → slice_get (forms items) number ≡ Some (Some form) → operational_on region form ≡ operational form
+
+pub takes-operators : TakeFromSources → LeavePlainForms → TakesOperators
+takes-operators law rules test items plain used number form region e =
+    subst (FormPasses test) (sym (rules items number form region plain e))
+    (form-pass test (operational form)
     (law test any_number items number form plain
     (each-follows (λ expr. uses test expr ≡ true) (λ expr. passes test any_number expr ≡ true) (uses-pass test)
-    (flat_map subexpressions_of items) used) refl e)
+    (flat_map subexpressions_of items) used) refl e))

@@ -25,7 +25,7 @@ ghost use Rattle.shape_check.specs.Statements.{verdict_of};
 use crate::nest_laws::{nests_are_ready, nests_are_small};
 use moa_tree::reads_again;
 use nest_build::bound_laws::nests_write_their_own;
-use nest_jobs::laws::areas_are_laid_out;
+use nest_jobs::laws::{areas_are_laid_out, rules_leave_plain_forms};
 use nest_jobs::program_laws::programs_lead;
 use nest_jobs::source_laws::forms_take_from_sources;
 use rv_emit::form_laws::lines_are_base;
@@ -69,5 +69,6 @@ pub fn programs_serve()
     programs_cost();
     programs_lead();
     reads_again();
+    rules_leave_plain_forms();
     verdicts_are_shapes();
 }

@@ -1,7 +1,7 @@
 -- An expression that fits with entries leads to operands that fit with what its rule makes of them: one law an operator.
-use Rattle.std.specs.Prelude.{◌≡◌, ℕ, zero, suc, ◌+◌, ◌-◌, ◌*◌, ◌<◌, ◌≤◌, ℤ, pos, negsuc, List, [], ◌∷◌, ◌++◌, drop, length, map, reverse, slice_index, take, unsigned_abs, IfOk, Result}
+use Rattle.std.specs.Prelude.{◌≡◌, ◌==◌, ℕ, zero, suc, ◌+◌, ◌-◌, ◌*◌, ◌<◌, ◌≤◌, Bool, true, false, if◌then◌else◌, ℤ, pos, negsuc, List, [], ◌∷◌, ◌++◌, drop, length, map, reverse, slice_index, take, unsigned_abs, IfOk, Result}
 use Rattle.std.specs.List.{AllByRecursion, flat_map, range_with_len}
-use Rattle.std.proofs.Common.{refl, ap, ◌∙◌, arith, length-append}
+use Rattle.std.proofs.Common.{refl, ap, ◌∙◌, arith, eq-eqb, length-append}
 use Rattle.std.proofs.lemmas.Grind.{flat_map-append}
 use Rattle.std.proofs.lemmas.Int.{ints}
 use Rattle.std.proofs.lemmas.List.{length-map}
@@ -17,8 +17,9 @@ use Rattle.moa_tree.specs.Subexpressions.{if_scan, scans_in, subexpressions}
 use Rattle.shape_check.specs.Costs.{Prices, nodes}
 use Rattle.normal_form.specs.declared.entry.Entry.{Entry}
 use Rattle.normal_form.specs.declared.entry.Entry.TheVariants.{At, Plus, Minus}
+use Rattle.normal_form.specs.Cutting.{Scope, carried}
 use Rattle.normal_form.specs.Keeps.{AreWithin, IsWithin}
-use Rattle.normal_form.specs.Kept.{greatest_constant}
+use Rattle.normal_form.specs.Constants.{greatest_constant}
 use Rattle.normal_form.specs.Moves.{mirrored_entry, remaining_entry, taken_entry, variable}
 use Rattle.psi_rules.specs.Building.{Built, IsFresh, used}
 use Rattle.psi_rules.specs.Fitting.{AreExtents, Fits, FitsIn, IsFit, cost}
@@ -32,7 +33,7 @@ use Rattle.psi_rules.proofs.WithinLemmas.{extents-small}
 
 -- ---- constants of entries within a shape fit
 
-entry-fits : (room : ℕ) (known : List ℕ) (entry : Entry) (n : ℕ) → room ≤ greatest_constant → n ≤ greatest_extent → IsWithin room known entry n
+entry-fits : (room : ℕ) (known : Scope) (entry : Entry) (n : ℕ) → room ≤ greatest_constant → n ≤ greatest_extent → IsWithin room known entry n
     → IsFit entry
 entry-fits room known (At (pos c)) n small least h = omega (arith, ints, least, h)
 entry-fits room known (At (negsuc c)) n small least h = absurd h
@@ -41,7 +42,7 @@ entry-fits room known (Plus var (negsuc a)) n small least h = omega (arith, ints
 entry-fits room known (Minus var (pos a)) n small least h = omega (arith, ints, small, h.2)
 entry-fits room known (Minus var (negsuc a)) n small least h = omega (arith, ints, small, h.2)
 
-entries-fit : (room : ℕ) (known : List ℕ) (entries : List Entry) (shape : List ℕ) → room ≤ greatest_constant → AreExtents shape
+entries-fit : (room : ℕ) (known : Scope) (entries : List Entry) (shape : List ℕ) → room ≤ greatest_constant → AreExtents shape
     → AreWithin room known entries shape → AllByRecursion IsFit entries
 entries-fit room known [] [] small least h = tt
 entries-fit room known [] (n ∷ shape) small least h = absurd h
@@ -50,7 +51,7 @@ entries-fit room known (entry ∷ entries) (n ∷ shape) small least h =
     (entry-fits room known entry n small least.0 h.0, entries-fit room known entries shape small least.1 h.1)
 
 -- there is one an axis
-pub entries-many : (room : ℕ) (known : List ℕ) (entries : List Entry) (shape : List ℕ) → AreWithin room known entries shape
+pub entries-many : (room : ℕ) (known : Scope) (entries : List Entry) (shape : List ℕ) → AreWithin room known entries shape
     → length entries ≡ length shape
 entries-many room known [] [] h = refl
 entries-many room known [] (n ∷ shape) h = absurd h
@@ -63,21 +64,36 @@ restored-many list entries =
 
 -- ---- more variables
 
-pub more-entry : (room var : ℕ) (known : List ℕ) (entry : Entry) (n : ℕ) → IsWithin room known entry n → IsWithin room (var ∷ known) entry n
+no-more : (test : Bool) (k : ℕ) → (if test then 0 else k) ≤ k
+no-more true k = omega arith
+no-more false k = omega arith
+
+carries-none : (test : Bool) (k : ℕ) → test ≡ true → (if test then 0 else k) ≡ 0
+carries-none true k e = refl
+carries-none false k e = absurd (grind (arith, e))
+
+-- a variable that carries nothing
+abbrev pub with_variable : ℕ → Scope → Scope
+with_variable var known = (var, 0) ∷ known
+
+pub more-entry : (room var : ℕ) (known : Scope) (entry : Entry) (n : ℕ) → IsWithin room known entry n → IsWithin room (with_variable var known) entry n
 more-entry room other known (At (pos c)) n h = h
 more-entry room other known (At (negsuc c)) n h = h
-more-entry room other known (Plus var add) n h = (h.0, (suc h.1.0, omega (arith, h.1.1), h.1.2), h.2)
-more-entry room other known (Minus var add) n h = (h.0, (suc h.1.0, omega (arith, h.1.1), h.1.2), h.2)
+more-entry room other known (Plus var add) n h =
+    (h.0, (suc h.1.0, omega (arith, h.1.1), h.1.2), let less = no-more (var == other) (carried known var) in omega (arith, h.2, less))
+more-entry room other known (Minus var add) n h =
+    (h.0, (suc h.1.0, omega (arith, h.1.1), h.1.2), let less = no-more (var == other) (carried known var) in omega (arith, h.2, less))
 
-pub more-entries : (room var : ℕ) (known : List ℕ) (entries : List Entry) (shape : List ℕ) → AreWithin room known entries shape
-    → AreWithin room (var ∷ known) entries shape
+pub more-entries : (room var : ℕ) (known : Scope) (entries : List Entry) (shape : List ℕ) → AreWithin room known entries shape
+    → AreWithin room (with_variable var known) entries shape
 more-entries room var known [] [] h = tt
 more-entries room var known [] (n ∷ shape) h = absurd h
 more-entries room var known (entry ∷ entries) [] h = absurd h
 more-entries room var known (entry ∷ entries) (n ∷ shape) h = (more-entry room var known entry n h.0, more-entries room var known entries shape h.1)
 
-pub variable-in : (room var : ℕ) (known : List ℕ) (n : ℕ) → 0 < n → IsWithin room (var ∷ known) (variable var) n
-variable-in room var known n some = (some, (0, omega arith, refl), omega arith)
+pub variable-in : (room var : ℕ) (known : Scope) (n : ℕ) → 0 < n → IsWithin room (with_variable var known) (variable var) n
+variable-in room var known n some =
+    (some, (0, omega arith, refl), let none = carries-none (var == var) (carried known var) (eq-eqb var var refl) in omega (arith, none))
 
 -- ---- counts
 
@@ -322,9 +338,9 @@ module _ (items : List Item) (statement : ℕ) where
       areas = areas-left scan left right h.areas;
       terms = omega (arith, h.terms);
       room = h.room;
-      known = var ∷ h.known;
+      known = with_variable var h.known;
       roomy = room-left h.room (nodes prices left) (nodes prices right) h.roomy;
-      within = ((within h.room).inner fold op left right h.accepted).2 (var ∷ h.known) (variable var ∷ entries)
+      within = ((within h.room).inner fold op left right h.accepted).2 (with_variable var h.known) (variable var ∷ entries)
           (variable-in h.room var h.known _ some, more-entries h.room var h.known entries _ h.within);
     }
 
@@ -338,9 +354,9 @@ module _ (items : List Item) (statement : ℕ) where
       areas = areas-right scan left right h.areas;
       terms = omega (arith, h.terms);
       room = h.room;
-      known = var ∷ h.known;
+      known = with_variable var h.known;
       roomy = room-right h.room (nodes prices left) (nodes prices right) h.roomy;
-      within = ((within h.room).inner fold op left right h.accepted).3 (var ∷ h.known) (variable var ∷ entries)
+      within = ((within h.room).inner fold op left right h.accepted).3 (with_variable var h.known) (variable var ∷ entries)
           (variable-in h.room var h.known _ some, more-entries h.room var h.known entries _ h.within);
     }
 
@@ -351,9 +367,9 @@ module _ (items : List Item) (statement : ℕ) where
       areas = h.areas;
       terms = fresh-less count (nodes prices of) h.terms;
       room = h.room;
-      known = var ∷ h.known;
+      known = with_variable var h.known;
       roomy = room-kept h.room (nodes prices of) h.roomy;
-      within = ((within h.room).reduces fold of h.accepted).1 (var ∷ h.known) (variable var ∷ entries)
+      within = ((within h.room).reduces fold of h.accepted).1 (with_variable var h.known) (variable var ∷ entries)
           (variable-in h.room var h.known _ some, more-entries h.room var h.known entries _ h.within);
     }
 

@@ -19,6 +19,7 @@ use Rattle.shape_check.specs.Costs.{Prices, nodes}
 use Rattle.normal_form.specs.declared.entry.Entry.{Entry}
 use Rattle.normal_form.specs.declared.entry.Entry.TheVariants.{At, Plus, Minus}
 use Rattle.normal_form.specs.Formers.{constants}
+use Rattle.normal_form.specs.Cutting.{Scope}
 use Rattle.normal_form.specs.Keeps.{AreWithin, IsWithin}
 use Rattle.normal_form.specs.Moves.{behind_entry, variable}
 use Rattle.psi_rules.specs.Fitting.{ArePlaces, Fits, FitsAt, FitsIn, IsPlace, cost}
@@ -27,18 +28,18 @@ use Rattle.psi_rules.specs.Rules.{Names, entry_on, scan_behind, shape_in, shapes
 use Rattle.psi_rules.specs.Numbered.{prices_at}
 use Rattle.psi_rules.specs.Scopes.{names_at}
 use Rattle.psi_rules.specs.Within.{AreAlike, OperandsWithin}
-use Rattle.psi_rules.proofs.FitLemmas.{areas-left, areas-right, entries-many, left-less, more-entries, more-entry, one-less, right-less, variable-in}
+use Rattle.psi_rules.proofs.FitLemmas.{areas-left, areas-right, entries-many, left-less, more-entries, more-entry, one-less, right-less, variable-in, with_variable}
 use Rattle.psi_rules.proofs.KeepFormLemmas.{room-behind, room-kept, room-left}
 
 -- ---- places
 
-pub place-within : (room : ℕ) (known : List ℕ) (entry : Entry) (n : ℕ) → IsWithin room known entry n → IsPlace entry n
+pub place-within : (room : ℕ) (known : Scope) (entry : Entry) (n : ℕ) → IsWithin room known entry n → IsPlace entry n
 place-within room known (At (pos c)) n h = h
 place-within room known (At (negsuc c)) n h = h
 place-within room known (Plus var add) n h = tt
 place-within room known (Minus var add) n h = tt
 
-pub places-within : (room : ℕ) (known : List ℕ) (entries : List Entry) (shape : List ℕ) → AreWithin room known entries shape
+pub places-within : (room : ℕ) (known : Scope) (entries : List Entry) (shape : List ℕ) → AreWithin room known entries shape
     → ArePlaces entries shape
 places-within room known [] [] h = tt
 places-within room known [] (n ∷ shape) h = absurd h
@@ -46,13 +47,13 @@ places-within room known (entry ∷ entries) [] h = absurd h
 places-within room known (entry ∷ entries) (n ∷ shape) h =
     (place-within room known entry n h.0, places-within room known entries shape h.1)
 
-pub some-within : (room : ℕ) (known : List ℕ) (entry : Entry) (n : ℕ) → IsWithin room known entry n → 0 < n
+pub some-within : (room : ℕ) (known : Scope) (entry : Entry) (n : ℕ) → IsWithin room known entry n → 0 < n
 some-within room known (At (pos c)) n h = omega (arith, h)
 some-within room known (At (negsuc c)) n h = absurd h
 some-within room known (Plus var add) n h = h.0
 some-within room known (Minus var add) n h = h.0
 
-pub all-some : (room : ℕ) (known : List ℕ) (entries : List Entry) (shape : List ℕ) → AreWithin room known entries shape
+pub all-some : (room : ℕ) (known : Scope) (entries : List Entry) (shape : List ℕ) → AreWithin room known entries shape
     → AllByRecursion (λ n. 0 < n) shape
 all-some room known [] [] h = tt
 all-some room known [] (n ∷ shape) h = absurd h
@@ -130,13 +131,13 @@ offset-less c n rest offset below less =
 
 -- ---- joins
 
-further-entry : (room : ℕ) (known : List ℕ) (entry : Entry) (n : ℕ) → IsWithin room known entry n → IsWithin (room + greatest_extent) known entry n
+further-entry : (room : ℕ) (known : Scope) (entry : Entry) (n : ℕ) → IsWithin room known entry n → IsWithin (room + greatest_extent) known entry n
 further-entry room known (At (pos c)) n h = h
 further-entry room known (At (negsuc c)) n h = h
 further-entry room known (Plus var add) n h = (h.0, h.1, omega (arith, h.2))
 further-entry room known (Minus var add) n h = (h.0, h.1, omega (arith, h.2))
 
-further-entries : (room : ℕ) (known : List ℕ) (entries : List Entry) (shape : List ℕ) → AreWithin room known entries shape
+further-entries : (room : ℕ) (known : Scope) (entries : List Entry) (shape : List ℕ) → AreWithin room known entries shape
     → AreWithin (room + greatest_extent) known entries shape
 further-entries room known [] [] h = tt
 further-entries room known [] (n ∷ shape) h = absurd h
@@ -144,7 +145,7 @@ further-entries room known (entry ∷ entries) [] h = absurd h
 further-entries room known (entry ∷ entries) (n ∷ shape) h =
     (further-entry room known entry n h.0, further-entries room known entries shape h.1)
 
-module _ (room : ℕ) (known : List ℕ) where
+module _ (room : ℕ) (known : Scope) where
   first-entry : (s : List ℕ) (entries : List Entry) → 0 < length s → AreWithin room known entries s
       → IsWithin room known (entry_on 0 entries) (slice_index s 0)
   first-entry [] entries some h = absurd (omega (arith, some))
@@ -276,9 +277,9 @@ module _ (items : List Item) (statement : ℕ) (moves : OperandsMove (shapes_of 
     areas = h.areas;
     terms = omega (arith, h.terms);
     room = h.room;
-    known = var ∷ h.known;
+    known = with_variable var h.known;
     roomy = room-kept h.room (nodes prices of) h.roomy;
-    within = replaced-within h.room (var ∷ h.known) (shape_in names of) entries (variable var) (moves.rotates by of h.accepted).1
+    within = replaced-within h.room (with_variable var h.known) (shape_in names of) entries (variable var) (moves.rotates by of h.accepted).1
         (more-entries h.room var h.known entries (shape_in names of) h.within)
         (variable-in h.room var h.known (slice_index (shape_in names of) 0)
         (some-within h.room h.known (entry_on 0 entries) (slice_index (shape_in names of) 0) (rotate-entry scan count by of entries h)));
@@ -332,7 +333,7 @@ module _ (items : List Item) (statement : ℕ) (moves : OperandsMove (shapes_of 
     areas = h.areas;
     terms = let few = shape-few (shape_in names of) ((within 0).shaped of h.accepted) in omega (arith, h.terms, few);
     room = h.room;
-    known = var ∷ h.known;
+    known = with_variable var h.known;
     roomy = h.roomy;
     offset = variable-in h.room var h.known (total (shape_in names of)) (subst (λ n. 0 < n) h.same some);
     within = tt;
@@ -379,10 +380,10 @@ module _ (items : List Item) (statement : ℕ) (moves : OperandsMove (shapes_of 
     areas = h.areas;
     terms = omega (arith, h.terms, inside);
     room = h.room;
-    known = var ∷ h.known;
+    known = with_variable var h.known;
     roomy = h.roomy;
     offset = more-entry h.room var h.known flat (total (shape_in names of)) h.offset;
-    within = found-within h.room (var ∷ h.known) found (shape_in names of) axis n (variable var) inside is
+    within = found-within h.room (with_variable var h.known) found (shape_in names of) axis n (variable var) inside is
         (more-entries h.room var h.known (reverse found) (take axis (shape_in names of)) h.within) (variable-in h.room var h.known n some);
   }
 

@@ -11,7 +11,8 @@ use Rattle.psi_rules.specs.Fitting.{Fits}
 use Rattle.psi_rules.specs.Numbered.{IsGoodTask, prices_at}
 use Rattle.psi_rules.specs.Rules.{shape_in}
 use Rattle.psi_rules.specs.Scopes.{names_at}
-use Rattle.psi_rules.proofs.KeepTaskLemmas.{NoneEmpty, cheap-room, in-range, variables-within}
+use Rattle.psi_rules.proofs.KeepTaskLemmas.{NoneEmpty, cheap-room, job-within}
+use Rattle.psi_rules.proofs.RoomLemmas.{resting}
 
 pub task-fits : NoneEmpty → (items : List Item) (statement scan : ℕ) (expr : Expr)
     → IsGoodTask (names_at items statement) (prices_at items statement) (expr, scan)
@@ -24,7 +25,7 @@ task-fits full items statement scan expr good axes some =
       areas = good.areas;
       terms = let few = good.few in omega (arith, few, axes);
       room = 0;
-      known = job_variables shape;
+      known = resting (job_variables shape);
       roomy = cheap-room (nodes (prices_at items statement) expr) good.few;
-      within = variables-within (job_variables shape) 0 shape (in-range (length shape)) (full shape some);
+      within = job-within shape (full shape some);
     }

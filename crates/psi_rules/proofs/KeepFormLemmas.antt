@@ -23,7 +23,8 @@ use Rattle.normal_form.specs.declared.entry.Entry.TheVariants.{At}
 use Rattle.normal_form.specs.Formers.{Former, Making, folding, joining, just, on_both, on_one, reshaping, turning}
 use Rattle.normal_form.specs.Forms.{Lit, Index, Get, Un, Bin}
 use Rattle.normal_form.specs.Keeps.{Keeps, MovesWithin}
-use Rattle.normal_form.specs.Kept.{IsFoldOperator, greatest_constant}
+use Rattle.normal_form.specs.Constants.{greatest_constant}
+use Rattle.normal_form.specs.Kept.{IsFoldOperator}
 use Rattle.normal_form.specs.Moves.{behind_entry, mirrored_entry, remaining_entry, taken_entry}
 use Rattle.psi_rules.specs.Keeping.{AreKeptNamed, HasRoom, IsSpared}
 use Rattle.psi_rules.specs.Operands.{IsAccepted, OperandsMove}
@@ -46,7 +47,7 @@ pub record KeepLaws (own : ℕ) : Type 0 where
   pub two : (room : ℕ) (op : Op) (left right : Former) (shape : List ℕ) → Keeps own room left shape → Keeps own room right shape
       → Keeps own room (λ entries. on_both (Bin op) (left entries) (right entries)) shape
   pub turns : (room : ℕ) (by : ℤ) (of : Former) (n : ℕ) (shape : List ℕ) → room ≤ greatest_constant → n ≤ greatest_extent
-      → Keeps own room of (n ∷ shape)
+      → Keeps own (room + greatest_extent) of (n ∷ shape)
       → Keeps own room
       (λ entries. turning (turned by n 0) n (slice_index_or entries 0 (At (pos 0)))
       (λ entry. of (on_axis 0 (λ extent old. entry) (n ∷ shape) entries)))
@@ -142,7 +143,7 @@ fold-has Xor h = refl
 -- ---- the first axis of a shape
 
 turn-any : (own : ℕ) → KeepLaws own → (room : ℕ) (by : ℤ) (of : Former) (shape : List ℕ) → room ≤ greatest_constant
-    → 0 < length shape → AreSmall shape → Keeps own room of shape
+    → 0 < length shape → AreSmall shape → Keeps own (room + greatest_extent) of shape
     → Keeps own room
     (λ entries. turning (turned by (slice_index shape 0) 0) (slice_index shape 0) (slice_index_or entries 0 (At (pos 0)))
     (λ entry. of (on_axis 0 (λ extent old. entry) shape entries)))
@@ -218,7 +219,7 @@ module _ (own : ℕ) (law : KeepLaws own) (names : Names) (prices : Prices) (agr
   kept (suc levels) room scan (Rotate by of) built spared h cost =
       let k = operand.rotates by of h in
       turn-any own law room by (form names scan of) (shape_in names of) (room-fits room (1 + nodes prices of) cost) k.1 (small-in of k.0)
-      (kept levels room scan of built spared k.0 (room-kept room (nodes prices of) cost))
+      (kept levels (room + greatest_extent) scan of built spared k.0 (room-grown room (nodes prices of) cost))
   kept (suc levels) room scan (Transpose of) built spared h cost =
       law.moved room room (form names scan of) (reverse (shape_in names of)) (shape_in names of) (λ entries. reverse entries)
       (kept levels room scan of built spared (operand.transposes of h).0 (room-kept room (nodes prices of) cost))

@@ -23,10 +23,11 @@ use Rattle.shape_check.specs.Jobs.{TreeJob, input_count, jobs_from, jobs_of, out
 use Rattle.shape_check.specs.Layout.{shapes_after}
 use Rattle.normal_form.specs.Forms.{Normal}
 use Rattle.normal_form.specs.Keeps.{Keeps}
-use Rattle.normal_form.specs.Kept.{IsKept, greatest_constant, job_variables}
+use Rattle.normal_form.specs.Constants.{greatest_constant}
+use Rattle.normal_form.specs.Kept.{IsKept, job_variables}
 use Rattle.psi_rules.specs.Areas.{Given, given_from, task_given}
 use Rattle.psi_rules.specs.Jobs.{Next, Task, forms_from, named, next_after, scanned, task_form, tasks_of}
-use Rattle.psi_rules.specs.Keeping.{AreKeptForms, AreKeptNamed, IsKeptForm, KeepExpressions}
+use Rattle.psi_rules.specs.Keeping.{AreKeptForms, AreKeptNamed, IsKeptForm, IsKeptOn, KeepExpressions}
 use Rattle.psi_rules.specs.Operands.{OperandsMove}
 use Rattle.psi_rules.specs.Rules.{Names, form, loading, shape_in, shapes_of}
 use Rattle.psi_rules.proofs.JobLemmas.{AreAccepted, IsAcceptedItem}
@@ -242,7 +243,7 @@ reached-first items start ins outs scans = record {
 pub kept-at : (jobs : List TreeJob) (arrays : List Given) (forms : List (Option Normal)) (number : ℕ) (tree_job : TreeJob) (array : Given)
     (form : Normal)
     → AreKeptForms jobs arrays forms → slice_get jobs number ≡ Some tree_job → slice_get arrays number ≡ Some array
-    → slice_get forms number ≡ Some (Some form) → IsKept tree_job.job.area (job_variables array.shape) form
+    → slice_get forms number ≡ Some (Some form) → IsKeptOn tree_job.job.area array.shape form
 kept-at [] arrays forms number tree_job array form h job at made = absurd (none-some tree_job job)
 kept-at (j ∷ jobs) [] forms number tree_job array form h job at made = absurd (none-some array at)
 kept-at (j ∷ jobs) (g ∷ arrays) [] number tree_job array form h job at made = absurd (none-some (Some form) made)

@@ -16,8 +16,9 @@ use Rattle.moa_tree.specs.Subexpressions.{if_scan, subexpressions}
 use Rattle.shape_check.specs.Costs.{Prices, job_size, nodes}
 use Rattle.shape_check.specs.Jobs.{TreeJob, scan_jobs}
 use Rattle.normal_form.specs.Formers.{Former}
-use Rattle.normal_form.specs.Keeps.{AreEarlier, AreWithin, Keeps}
-use Rattle.normal_form.specs.Kept.{job_variables}
+use Rattle.normal_form.specs.Cutting.{Scope, carried}
+use Rattle.normal_form.specs.Keeps.{AreEarlier, AreWithin, Keeps, variables_in}
+use Rattle.normal_form.specs.Kept.{IsKept, job_variables}
 use Rattle.normal_form.specs.Moves.{variable, variables}
 use Rattle.psi_rules.specs.Areas.{Given}
 use Rattle.psi_rules.specs.Jobs.{Task, job_form, scanned}
@@ -25,24 +26,35 @@ use Rattle.psi_rules.specs.Keeping.{AreKeptNamed, HasRoom, IsKeptForm, KeepExpre
 use Rattle.psi_rules.specs.Operands.{IsAccepted, OperandsMove}
 use Rattle.psi_rules.specs.Rules.{Names, form, shape_in, shapes_of}
 use Rattle.psi_rules.proofs.ListLemmas.{each-append, each-follows}
+use Rattle.psi_rules.proofs.RoomLemmas.{resting, resting-carries, resting-variables, roomy-agrees}
 
 -- ---- the variables of a job
 
-variables-earlier : (start count next : ℕ) → start + count ≤ next → AreEarlier next (range_with_len start count)
+variables-earlier : (start count next : ℕ) → start + count ≤ next → AreEarlier next (resting (range_with_len start count))
 variables-earlier start zero next h = tt
 variables-earlier start (suc count) next h = (omega (arith, h), variables-earlier (start + 1) count next (omega (arith, h)))
 
-pub variables-within : (known : List ℕ) (start : ℕ) (shape : List ℕ) → ((k : ℕ) → k < length shape → Contains known (start + k))
-    → AllByRecursion (λ n. 0 < n) shape → AreWithin 0 known (map variable (range_with_len start (length shape))) shape
-variables-within known start [] each some = tt
-variables-within known start (n ∷ shape) each some =
+pub variables-within : (scope : Scope) (start : ℕ) (shape : List ℕ) → ((var : ℕ) → carried scope var ≡ 0)
+    → ((k : ℕ) → k < length shape → Contains (variables_in scope) (start + k))
+    → AllByRecursion (λ n. 0 < n) shape → AreWithin 0 scope (map variable (range_with_len start (length shape))) shape
+variables-within scope start [] rests each some = tt
+variables-within scope start (n ∷ shape) rests each some =
+    let known = variables_in scope in
+    let rest = rests start in
     let here : start + 0 ≡ start = omega arith in
     let next = λ (k : ℕ) (below : k < length shape). let e : start + suc k ≡ start + 1 + k = omega arith in
     subst (Contains known) e (each (suc k) (omega (arith, below))) in
-    ((some.0, subst (Contains known) here (each 0 (omega arith)), omega arith), variables-within known (start + 1) shape next some.1)
+    ((some.0, subst (Contains known) here (each 0 (omega arith)), omega (arith, rest)), variables-within scope (start + 1) shape rests next some.1)
 
 pub in-range : (count k : ℕ) → k < count → Contains (range_with_len 0 count) (0 + k)
 in-range count k below = (k, omega (arith, below, length-range_with_len 0 count), get_or-range_with_len 0 count k (0 + k) below)
+
+-- the variables of a job are entries of its shape, which carry nothing
+pub job-within : (shape : List ℕ) → AllByRecursion (λ n. 0 < n) shape → AreWithin 0 (resting (job_variables shape)) (variables (length shape)) shape
+job-within shape some =
+    let vars = job_variables shape in
+    variables-within (resting vars) 0 shape (resting-carries vars)
+    (λ k below. subst (λ known. Contains known (0 + k)) (sym (resting-variables vars)) (in-range (length shape) k below)) some
 
 -- extents whose product is not 0
 abbrev pub NoneEmpty : Type 0
@@ -55,9 +67,14 @@ chosen-kept full tree_job array true former shape same e h = tt
 chosen-kept full tree_job array false former shape same e h =
     let axes = length shape in
     let some : 0 < total shape = omega (arith, eqb-false (total shape) 0 e) in
-    subst (λ s. IsKeptForm tree_job (record { shape = s; at = array.at }) (Some (former (variables axes) axes).0)) (sym same)
-    (h.keeps (job_variables shape) axes (variables axes) (variables-earlier 0 axes axes (omega arith))
-    (variables-within (job_variables shape) 0 shape (in-range axes) (full shape some)))
+    let scope = resting (job_variables shape) in
+    let made = (former (variables axes) axes).0 in
+    let keeps = h.keeps scope axes (variables axes) (variables-earlier 0 axes axes (omega arith)) (job-within shape (full shape some)) in
+    subst (λ s. IsKeptForm tree_job (record { shape = s; at = array.at }) (Some made)) (sym same) (record {
+      kept = subst (λ vars. IsKept tree_job.job.area vars made) (resting-variables (job_variables shape)) keeps.kept;
+      varying = keeps.varying;
+      roomy = roomy-agrees made scope [] (resting-carries (job_variables shape)) keeps.roomy;
+    })
 
 pub job-is-kept : NoneEmpty → (tree_job : TreeJob) (array : Given) (former : Former) (shape : List ℕ) → array.shape ≡ shape
     → Keeps tree_job.job.area 0 former shape → IsKeptForm tree_job array (job_form shape former)

@@ -25,6 +25,7 @@ mod OffsetLemmas
 mod OwnedLemmas
 mod ReadyLemmas
 mod ReduceLemmas
+mod RoomLemmas
 mod RowLemmas
 mod ScopeLemmas
 mod TaskLemmas

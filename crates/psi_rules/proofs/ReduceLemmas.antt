@@ -1,5 +1,5 @@
 -- A job of a checked program among the program's statements, and what its form keeps.
-use Rattle.std.specs.Prelude.{◌≡◌, ℕ, ◌<◌, List, [], ◌∷◌, length, map, slice_get, slice_index_or, Option, None, Some}
+use Rattle.std.specs.Prelude.{◌≡◌, ℕ, ◌<◌, ◌≤◌, List, [], ◌∷◌, length, map, slice_get, slice_index_or, Option, None, Some}
 use Rattle.std.specs.List.{AllByRecursion}
 use Rattle.std.proofs.Common.{refl, ap, sym, subst, ◌∙◌, arith, inl, inr, le_refl}
 use Rattle.std.proofs.lemmas.List.{length-map}
@@ -16,6 +16,7 @@ use Rattle.shape_check.specs.Judged.{items_in, node_tree}
 use Rattle.shape_check.specs.Kept.{Checking, IsChecked, pooled}
 use Rattle.normal_form.specs.Assignments.{assigned}
 use Rattle.normal_form.specs.declared.term.Term.{Term}
+use Rattle.normal_form.specs.Cutting.{IsRoomy, IsVarying, terms_in}
 use Rattle.normal_form.specs.Forms.{Normal}
 use Rattle.normal_form.specs.Kept.{IsBox, IsEmpty, IsFoldJob, IsForm, IsInBox, IsKept, IsNormal, Parts, form_in, job_variables, top_form}
 use Rattle.normal_form.specs.Meaning.{Reached}
@@ -24,6 +25,7 @@ use Rattle.psi_rules.specs.Agrees.{AreFormsOf, IsFormOf}
 use Rattle.psi_rules.specs.Areas.{Given, given, store}
 use Rattle.psi_rules.specs.Building.{IsPool}
 use Rattle.psi_rules.specs.Jobs.{forms, job_form, task_form}
+use Rattle.psi_rules.specs.Keeping.{IsKeptOn}
 use Rattle.psi_rules.specs.Reduced.{JobFacts}
 use Rattle.psi_rules.specs.Rules.{Names, form, shape_in}
 use Rattle.psi_rules.specs.Scopes.{Owned, first_scan, job_shapes, names_at, next_at, owned}
@@ -115,7 +117,7 @@ pub record FormLaws (items : List Item) : Type 0 where
   pub gives : AreFormsOf (store [] items) (forms items) (given [] items)
   pub keeps : (number : ℕ) (tree_job : TreeJob) (array : Given) (form : Normal) → slice_get (jobs items) number ≡ Some tree_job
       → slice_get (given [] items) number ≡ Some array → slice_get (forms items) number ≡ Some (Some form)
-      → IsKept tree_job.job.area (job_variables array.shape) form
+      → IsKeptOn tree_job.job.area array.shape form
   pub folds : (number : ℕ) (tree_job : TreeJob) (array : Given) → slice_get (jobs items) number ≡ Some tree_job
       → slice_get (given [] items) number ≡ Some array → IsFoldJob tree_job.job.fold array.shape
   pub some : (shape : List ℕ) → 0 < total shape → AllByRecursion (λ n. 0 < n) shape
@@ -131,6 +133,7 @@ pub record HasForm (items : List Item) (number : ℕ) (job : Job) (shape : List 
   pub shaped : array.shape ≡ shape
   pub formed : slice_get (forms items) number ≡ Some (form_in terms)
   pub pool : IsPool terms
+  pub counted : 0 < length terms → terms_in (top_form terms) ≤ length terms
   pub within : IsShape shape
 
 abbrev Forms : Type 0
@@ -184,8 +187,10 @@ module _ (made : Forms) (shapes : Shapes) (checking : Checking) (tables : Tables
       ∙ at-mapped (λ (o : Owned). o.task.0) (owned all) number owner facts.owned_here ∙ ap (λ tree. Some tree) (sym facts.tree)
 
   pub has-form : (shape : List ℕ) → shape ≡ slice_index_or checking.shapes job.node [] → IsShape shape → IsPool terms
+      → ((names : Names) → IsReady checking tables (owner_at tables number) names job.node
+      → 0 < length terms → terms_in (top_form terms) ≤ length terms)
       → HasForm all number job shape terms
-  has-form shape e within pool =
+  has-form shape e within pool counted =
       let found = mapped-at (λ (array : Given). array.shape) (given [] all) number shape
       (ap (λ l. slice_get l number) (shapes [] all) ∙ shape-here shape e) in
       record {
@@ -198,6 +203,7 @@ module _ (made : Forms) (shapes : Shapes) (checking : Checking) (tables : Tables
         shaped = found.2;
         formed = form-here;
         pool = pool;
+        counted = counted known ready;
         within = within;
       }
 
@@ -231,7 +237,10 @@ module _ (items : List Item) (laws : FormLaws items) (number : ℕ) (job : Job) 
         ordered = h.pool.ordered;
         kept = subst (λ own. IsKept own (job_variables shape) (top_form terms)) (sym h.area)
             (subst (IsKept h.tree_job.job.area (job_variables shape)) (sym top.1)
-            (subst (λ s. IsKept h.tree_job.job.area (job_variables s) form) h.shaped kept));
+            (subst (λ s. IsKept h.tree_job.job.area (job_variables s) form) h.shaped kept.kept));
+        varying = subst IsVarying (sym top.1) kept.varying;
+        roomy = subst (IsRoomy []) (sym top.1) kept.roomy;
+        tree = h.counted top.0;
         fine = λ index inside. subst (Reached IsFine (assigned index)) (sym top.1)
             (gives.1 index (subst (IsIndex index) (sym h.shaped) (in-box index shape inside))).fine;
       }

@@ -1,4 +1,5 @@
--- Pools of terms grow at their ends: what stands goes on standing, and what is added is made of what its operands are.
+-- Pools of terms grow at their ends: what stands goes on standing, what is added is made of what its operands are, and a form has no more terms
+-- as a tree than were added for it.
 use Rattle.std.specs.Prelude.{◌≡◌, ℕ, zero, suc, ◌+◌, ◌<◌, ◌≤◌, List, [], ◌∷◌, ◌++◌, length, ℤ, pos, IfOk, Result, slice_index}
 use Rattle.std.specs.List.{AllByRecursion}
 use Rattle.std.proofs.Common.{refl, ap, sym, subst, ◌∙◌, arith, length-append}
@@ -10,7 +11,8 @@ use Rattle.moa_tree.specs.Axes.{on_axis, turned}
 use Rattle.moa_tree.specs.declared.operator.Op.{Op}
 use Rattle.normal_form.specs.declared.entry.Entry.{Entry}
 use Rattle.normal_form.specs.declared.term.Term.{Term}
-use Rattle.normal_form.specs.Formers.{Former, Making, folding, joining, on_both, on_one, turning, with_form}
+use Rattle.normal_form.specs.Cutting.{terms_in}
+use Rattle.normal_form.specs.Formers.{Former, Making, folding, joining, just, on_both, on_one, turning, with_form}
 use Rattle.normal_form.specs.Forms.{Fold, Lit, Normal}
 use Rattle.normal_form.specs.Kept.{AreOrdered}
 use Rattle.normal_form.specs.Moves.{behind_entry, variable}
@@ -65,16 +67,30 @@ pool-grown terms term pool room below = record {
   few = omega (arith, room, length-append terms (term ∷ []));
 }
 
--- a term that is pushed adds its form
-pub added : (old new : Built) (term : Term) (form : Normal) → new.terms ≡ old.terms ++ term ∷ [] → new.next ≡ old.next
-    → form_of (forms old.terms) term ≡ form → Adds form old new (length old.terms)
-added old new term form terms next same = record {
+longer-by-one : (old new : Built) (term : Term) → new.terms ≡ old.terms ++ term ∷ [] → length new.terms ≡ 1 + length old.terms
+longer-by-one old new term terms =
+    subst (λ l. length l ≡ 1 + length old.terms) (sym terms) (omega (arith, length-append old.terms (term ∷ [])))
+
+-- a term that is pushed adds its form, which has one term more than its operands
+pub added : (old new : Built) (term : Term) (below : ℕ) (form : Normal) → new.terms ≡ old.terms ++ term ∷ [] → new.next ≡ old.next
+    → form_of (forms old.terms) term ≡ form → terms_in form ≡ 1 + below → Adds below form old new (length old.terms)
+added old new term below form terms next same count = record {
   stands = record {
     there = subst (λ l. length old.terms < length l) (sym terms) (omega (arith, length-append old.terms (term ∷ [])));
     same = ap (λ l. form_at (forms l) (length old.terms)) terms ∙ newest old.terms term ∙ same;
   };
   next = next;
   keeps = λ number other stands. subst (λ l. Stands l number other) (sym terms) (kept old.terms term number other stands);
+  counted = omega (arith, count, longer-by-one old new term terms);
+}
+
+-- and builds it where it has no operand
+pub built-alone : (old new : Built) (form : Normal) (number : ℕ) → Adds 0 form old new number → Builds (just form) old new number
+built-alone old new form number adds = record {
+  stands = adds.stands;
+  next = adds.next;
+  keeps = adds.keeps;
+  counted = omega (arith, adds.counted);
 }
 
 pub term-there : (old new : Built) (term : Term) → new.terms ≡ old.terms ++ term ∷ [] → IsThere old new (length old.terms)
@@ -85,36 +101,43 @@ term-there old new term terms = record {
 
 -- what is made of one form, and of two
 one-built : (f : Normal → Normal) (of : Making) (old mid new : Built) (operand number : ℕ) → Builds of old mid operand
-    → Adds (f (of old.next).0) mid new number → Builds (on_one f of) old new number
+    → Adds (terms_in (of old.next).0) (f (of old.next).0) mid new number → Builds (on_one f of) old new number
 one-built f of old mid new operand number built adds = record {
   stands = adds.stands;
   next = adds.next ∙ built.next;
   keeps = λ n form stands. adds.keeps n form (built.keeps n form stands);
+  counted = omega (arith, adds.counted, built.counted);
 }
 
 both-built : (f : Normal → Normal → Normal) (left right : Making) (old mid last new : Built) (first second number : ℕ)
     → Builds left old mid first → Builds right mid last second
-    → Adds (f (left old.next).0 (right mid.next).0) last new number → Builds (on_both f left right) old new number
+    → Adds (terms_in (left old.next).0 + terms_in (right mid.next).0) (f (left old.next).0 (right mid.next).0) last new number
+    → Builds (on_both f left right) old new number
 both-built f left right old mid last new first second number one other made =
     record {
       stands = subst (λ next. Stands new.terms number (f (left old.next).0 (right next).0)) one.next made.stands;
       next = made.next ∙ other.next ∙ ap (λ next. (right next).1) one.next;
       keeps = λ n form stands. made.keeps n form (other.keeps n form (one.keeps n form stands));
+      counted = subst (λ next. terms_in (f (left old.next).0 (right next).0) + length old.terms ≤ length new.terms) one.next
+          (omega (arith, made.counted, other.counted, one.counted));
     }
 
 -- the same of what a call answers
 pub one-done : {E : Type 0} (f : Normal → Normal) (of : Making) (old mid new : Built) (operand : ℕ) (result : Result ℕ E) → Builds of old mid operand
-    → ((form : Normal) → Stands mid.terms operand form → IfOk result (Adds (f form) mid new)) → IfOk result (Builds (on_one f of) old new)
+    → ((form : Normal) → Stands mid.terms operand form → IfOk result (Adds (terms_in form) (f form) mid new))
+    → IfOk result (Builds (on_one f of) old new)
 one-done f of old mid new operand result built adds =
-    IfOk-weaker result (Adds (f (of old.next).0) mid new) (Builds (on_one f of) old new)
+    IfOk-weaker result (Adds (terms_in (of old.next).0) (f (of old.next).0) mid new) (Builds (on_one f of) old new)
     (λ number. one-built f of old mid new operand number built) (adds (of old.next).0 built.stands)
 
 pub both-done : {E : Type 0} (f : Normal → Normal → Normal) (left right : Making) (old mid last new : Built) (first second : ℕ) (result : Result ℕ E)
     → Builds left old mid first → Builds right mid last second
-    → ((one other : Normal) → Stands last.terms first one → Stands last.terms second other → IfOk result (Adds (f one other) last new))
+    → ((one other : Normal) → Stands last.terms first one → Stands last.terms second other
+    → IfOk result (Adds (terms_in one + terms_in other) (f one other) last new))
     → IfOk result (Builds (on_both f left right) old new)
 both-done f left right old mid last new first second result one other adds =
-    IfOk-weaker result (Adds (f (left old.next).0 (right mid.next).0) last new) (Builds (on_both f left right) old new)
+    IfOk-weaker result (Adds (terms_in (left old.next).0 + terms_in (right mid.next).0) (f (left old.next).0 (right mid.next).0) last new)
+    (Builds (on_both f left right) old new)
     (λ number. both-built f left right old mid last new first second number one other)
     (adds (left old.next).0 (right mid.next).0 (other.keeps first (left old.next).0 one.stands) other.stands)
 
@@ -129,7 +152,8 @@ pair-done f left right given wanted other wanted_other e d old new result built 
 
 -- what takes the next variable
 fresh-built : (f : ℕ → Normal → Normal) (item : Entry → Making) (old mid last new : Built) (var operand number : ℕ) → IsFresh old mid var
-    → Builds (item (variable var)) mid last operand → Adds (f var (item (variable var) mid.next).0) last new number
+    → Builds (item (variable var)) mid last operand
+    → Adds (terms_in (item (variable var) mid.next).0) (f var (item (variable var) mid.next).0) last new number
     → Builds (λ next. with_form (f next) (item (variable next) (suc next))) old new number
 fresh-built f item old mid last new var operand number fresh built adds = record {
   stands =
@@ -138,14 +162,18 @@ fresh-built f item old mid last new var operand number fresh built adds = record
   next =
       adds.next ∙ built.next ∙ ap (λ next. (item (variable var) next).1) fresh.next ∙ ap (λ v. (item (variable v) (suc old.next)).1) fresh.taken;
   keeps = λ k form stands. adds.keeps k form (built.keeps k form (subst (λ l. Stands l k form) (sym fresh.terms) stands));
+  counted =
+      subst (λ v. terms_in (f v (item (variable v) (suc old.next)).0) + length old.terms ≤ length new.terms) fresh.taken
+      (subst (λ next. terms_in (f var (item (variable var) next).0) + length old.terms ≤ length new.terms) fresh.next
+      (omega (arith, adds.counted, built.counted, ap length fresh.terms)));
 }
 
 pub fresh-done : {E : Type 0} (f : ℕ → Normal → Normal) (item : Entry → Making) (old mid last new : Built) (var operand : ℕ) (result : Result ℕ E)
     → IsFresh old mid var → Builds (item (variable var)) mid last operand
-    → ((form : Normal) → Stands last.terms operand form → IfOk result (Adds (f var form) last new))
+    → ((form : Normal) → Stands last.terms operand form → IfOk result (Adds (terms_in form) (f var form) last new))
     → IfOk result (Builds (λ next. with_form (f next) (item (variable next) (suc next))) old new)
 fresh-done f item old mid last new var operand result fresh built adds =
-    IfOk-weaker result (Adds (f var (item (variable var) mid.next).0) last new)
+    IfOk-weaker result (Adds (terms_in (item (variable var) mid.next).0) (f var (item (variable var) mid.next).0) last new)
     (Builds (λ next. with_form (f next) (item (variable next) (suc next))) old new)
     (λ number. fresh-built f item old mid last new var operand number fresh built) (adds (item (variable var) mid.next).0 built.stands)
 
@@ -153,7 +181,7 @@ fresh-done f item old mid last new var operand result fresh built adds =
 pub fold-done : {E : Type 0} (op : Op) (n : ℕ) (item : Entry → Making) (old mid last new : Built) (var operand : ℕ) (result : Result ℕ E)
     → (n ≡ 0 → ⊥)
     → IsFresh old mid var → Builds (item (variable var)) mid last operand
-    → ((form : Normal) → Stands last.terms operand form → IfOk result (Adds (Fold op var 0 n form) last new))
+    → ((form : Normal) → Stands last.terms operand form → IfOk result (Adds (terms_in form) (Fold op var 0 n form) last new))
     → IfOk result (Builds (folding op n item) old new)
 fold-done op zero item old mid last new var operand result some fresh built adds = absurd (some refl)
 fold-done op (suc n) item old mid last new var operand result some fresh built adds =

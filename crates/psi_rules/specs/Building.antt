@@ -7,7 +7,8 @@ use Rattle.moa_tree.specs.declared.operator.Op.{Op}
 use Rattle.normal_form.specs.declared.entry.Entry.{Entry}
 use Rattle.normal_form.specs.declared.term.Bind.TheVariants.{Digit, Flat, Turn}
 use Rattle.normal_form.specs.declared.term.Term.{Term}
-use Rattle.normal_form.specs.Formers.{Former, Making, binding, folding, joining, just, on_both, spreading, turning}
+use Rattle.normal_form.specs.Cutting.{terms_in}
+use Rattle.normal_form.specs.Formers.{Former, Making, binding, folding, joining, on_both, spreading, turning}
 use Rattle.normal_form.specs.Forms.{Bin, Case, Normal}
 use Rattle.normal_form.specs.Kept.{AreOrdered}
 use Rattle.normal_form.specs.Moves.{behind_entry}
@@ -54,15 +55,20 @@ pub record IsFresh (old new : Built) (var : ℕ) : Type 0 where
   pub next : new.next ≡ suc old.next
   pub terms : new.terms ≡ old.terms
 
--- what is made from the next variable on stands at this number
+-- What is made from the next variable on stands at this number. As a tree it has no more terms than were added.
 pub record Builds (making : Making) (old new : Built) (number : ℕ) : Type 0 where
   pub stands : Stands new.terms number (making old.next).0
   pub next : new.next ≡ (making old.next).1
   pub keeps : Keeps old.terms new.terms
+  pub counted : terms_in (making old.next).0 + length old.terms ≤ length new.terms
 
--- a form is added at this number, with no variable of its own
-abbrev pub Adds : Normal → Built → Built → ℕ → Type 0
-Adds form old new number = Builds (just form) old new number
+-- A form is added at this number, with no variable of its own. As a tree it has no more terms than its operands, which have so many, and those
+-- that were added.
+pub record Adds (below : ℕ) (form : Normal) (old new : Built) (number : ℕ) : Type 0 where
+  pub stands : Stands new.terms number form
+  pub next : new.next ≡ old.next
+  pub keeps : Keeps old.terms new.terms
+  pub counted : terms_in form + length old.terms ≤ below + length new.terms
 
 -- the fold of an inner product of two formers, where the first is of this shape
 abbrev pub inner_made : Op → Op → List ℕ → List Entry → Former → Former → Making

@@ -11,6 +11,7 @@ use Rattle.shape_check.specs.Judged.{items_in}
 use Rattle.shape_check.specs.Kept.{Checking}
 use Rattle.normal_form.specs.declared.entry.Entry.{Entry}
 use Rattle.normal_form.specs.declared.entry.Entry.TheVariants.{At, Plus, Minus}
+use Rattle.normal_form.specs.Cutting.{Scope}
 use Rattle.normal_form.specs.Keeps.{AreWithin, IsWithin}
 use Rattle.normal_form.specs.Moves.{behind_entry}
 use Rattle.psi_rules.specs.declared.digits.Digited.{Digited}
@@ -61,7 +62,7 @@ pub record Fits (items : List Item) (statement scan count : ℕ) (expr : Expr) (
   pub areas : scan + length (scans_in expr) ≤ greatest_area
   pub terms : count + cost items statement expr ≤ most_items
   pub room : ℕ
-  pub known : List ℕ
+  pub known : Scope
   pub roomy : HasRoom room (nodes (prices_at items statement) expr)
   pub within : AreWithin room known entries (shape_in (names_at items statement) expr)
 
@@ -73,7 +74,7 @@ pub record FitsIn (items : List Item) (statement scan count : ℕ) (operand : Ex
   pub shaped : IsShape shape
   pub same : total shape ≡ total (shape_in (names_at items statement) operand)
   pub room : ℕ
-  pub known : List ℕ
+  pub known : Scope
   pub roomy : HasRoom room (nodes (prices_at items statement) operand)
   pub within : AreWithin room known entries shape
 
@@ -83,7 +84,7 @@ pub record FitsAt (items : List Item) (statement scan count : ℕ) (operand : Ex
   pub areas : scan + length (scans_in operand) ≤ greatest_area
   pub terms : count + (2 * (length (shape_in (names_at items statement) operand) - axis) + cost items statement operand) ≤ most_items
   pub room : ℕ
-  pub known : List ℕ
+  pub known : Scope
   pub roomy : HasRoom room (nodes (prices_at items statement) operand)
   pub offset : IsWithin room known flat (total (shape_in (names_at items statement) operand))
   pub within : AreWithin room known (reverse found) (take axis (shape_in (names_at items statement) operand))
@@ -94,17 +95,17 @@ abbrev pub IsReadyHere : Checking → Tables → ℕ → ℕ → Type 0
 IsReadyHere checking tables statement number = IsReady checking tables statement (names_at (items_in checking.pools) statement) number
 
 -- the parts of a join that an entry reaches, of n items and of m: it is within each of them
-abbrev pub IsWithinSide : Side → ℕ → List ℕ → ℕ → ℕ → Entry → Type 0
+abbrev pub IsWithinSide : Side → ℕ → Scope → ℕ → ℕ → Entry → Type 0
 IsWithinSide side.First room known n m entry = IsWithin room known entry n
 IsWithinSide side.Second room known n m entry = IsWithin (room + greatest_extent) known (behind_entry n entry) m
 IsWithinSide side.Both room known n m entry =
     IsWithin room known entry n × IsWithin (room + greatest_extent) known (behind_entry n entry) m
 
 -- what is found of an entry of an axis of n items is one
-abbrev pub IsDigitWithin : Digited → ℕ → List ℕ → ℕ → Type 0
+abbrev pub IsDigitWithin : Digited → ℕ → Scope → ℕ → Type 0
 IsDigitWithin (digited.Found entry) room known n = IsWithin room known entry n
 IsDigitWithin digited.Bound room known n = ⊤
 
-abbrev pub IsTurnWithin : Turned → ℕ → List ℕ → ℕ → Type 0
+abbrev pub IsTurnWithin : Turned → ℕ → Scope → ℕ → Type 0
 IsTurnWithin (turned_entry.Found entry) room known n = IsWithin room known entry n
 IsTurnWithin turned_entry.Bound room known n = ⊤

@@ -11,7 +11,9 @@ use Rattle.shape_check.specs.Costs.{Priced, Prices, nodes}
 use Rattle.shape_check.specs.Jobs.{TreeJob}
 use Rattle.normal_form.specs.Forms.{Normal}
 use Rattle.normal_form.specs.Keeps.{Keeps}
-use Rattle.normal_form.specs.Kept.{IsKept, greatest_constant, job_variables}
+use Rattle.normal_form.specs.Constants.{greatest_constant}
+use Rattle.normal_form.specs.Cutting.{IsRoomy, IsVarying}
+use Rattle.normal_form.specs.Kept.{IsKept, job_variables}
 use Rattle.psi_rules.specs.Areas.{Given}
 use Rattle.psi_rules.specs.Operands.{IsAccepted}
 use Rattle.psi_rules.specs.Rules.{Named, Names, form, shape_in, shapes_of}
@@ -40,10 +42,16 @@ KeepExpressions names prices = (own room scan levels : ℕ) (expr : Expr)
     → IsAccepted (shapes_of names) expr → HasRoom room (nodes prices expr)
     → Keeps own room (form names scan expr) (shape_in names expr)
 
+-- the form of an array of this shape keeps what forms of an area do: no choice, turn or digit is of a constant, and constants leave room
+pub record IsKeptOn (own : ℕ) (shape : List ℕ) (form : Normal) : Type 0 where
+  pub kept : IsKept own (job_variables shape) form
+  pub varying : IsVarying form
+  pub roomy : IsRoomy [] form
+
 -- a job's form, where its array has one, keeps what the form of an array in the job's area does
 abbrev pub IsKeptForm : TreeJob → Given → Option Normal → Type 0
 IsKeptForm tree_job array None = Unit {0}
-IsKeptForm tree_job array (Some form) = IsKept tree_job.job.area (job_variables array.shape) form
+IsKeptForm tree_job array (Some form) = IsKeptOn tree_job.job.area array.shape form
 
 -- the same of all jobs
 abbrev pub AreKeptForms : List TreeJob → List Given → List (Option Normal) → Type 0

@@ -6,6 +6,7 @@ ghost use Rattle.shapes_core.specs.Limits.{greatest_extent};
 ghost use Rattle.shapes_core.specs.Shape.{IsShape, span, total};
 ghost use Rattle.normal_form.specs.declared.entry.Entry.{Entry as AnEntry};
 ghost use Rattle.normal_form.specs.Formers.{Making, constants, digiting, flattening};
+ghost use Rattle.normal_form.specs.Cutting.{Scope};
 ghost use Rattle.normal_form.specs.Keeps.{AreWithin};
 ghost use Rattle.psi_rules.specs.Building.{digit_by, flat_by};
 ghost use Rattle.psi_rules.specs.Fitting.{ArePlaces, IsDigitWithin};
@@ -28,7 +29,7 @@ pub(crate) fn digit_entry(flat: Entry, weight: u64, n: u64) -> Digited
     requires some { 0 < n }
     requires small { n ≤ greatest_extent }
     ensures digits { (rest : AnEntry → Making) → digiting flat weight n rest ≡ digit_by result flat weight n rest }
-    ensures within { (room : ℕ) (known : List ℕ) → IsDigitWithin result room known n }
+    ensures within { (room : ℕ) (known : Scope) → IsDigitWithin result room known n }
 {
     if n == 1 {
         return Digited::Found(Entry::At(0));
@@ -65,7 +66,7 @@ fn constant_offset(shape: &Shape, axis: usize, list: &[Entry]) -> Option<u64>
 pub(crate) fn offset_entry(shape: &Shape, entries: &Entries) -> Digited
     requires { ArePlaces entries.now shape.now }
     ensures offset { (rest : AnEntry → Making) → flattening shape.now entries.now rest ≡ flat_by result shape.now entries.now rest }
-    ensures within { (room : ℕ) (known : List ℕ) → AreWithin room known entries.now shape.now
+    ensures within { (room : ℕ) (known : Scope) → AreWithin room known entries.now shape.now
         → IsDigitWithin result room known (total shape.now) }
 {
     if shape.extents().len() == 1 {

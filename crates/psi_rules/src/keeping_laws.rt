@@ -1,6 +1,6 @@
 // What every form of the rules keeps, as clauses of functions that do nothing.
 ghost use Rattle.std.specs.List.{AllByRecursion};
-ghost use Rattle.std.specs.Prelude.{◌≡◌, ℕ, List, Ok, Some, slice_get};
+ghost use Rattle.std.specs.Prelude.{◌≡◌, ℕ, List, [], Ok, Some, slice_get};
 ghost use Rattle.moa_tree.specs.Canonical.{IsBuiltItem};
 ghost use Rattle.moa_tree.specs.Denotation.{Store as Lists};
 ghost use Rattle.moa_tree.specs.Expr.{Item};
@@ -10,6 +10,7 @@ ghost use Rattle.shape_check.specs.Costs.{Prices};
 ghost use Rattle.shape_check.specs.Jobs.{TreeJob, jobs};
 ghost use Rattle.shape_check.specs.Judged.{items_in};
 ghost use Rattle.shape_check.specs.Statements.{verdict_of};
+ghost use Rattle.normal_form.specs.Cutting.{IsRoomy, IsVarying};
 ghost use Rattle.normal_form.specs.Forms.{Normal};
 ghost use Rattle.normal_form.specs.Kept.{IsFoldJob, IsKept, job_variables};
 ghost use Rattle.psi_rules.specs.Areas.{Given, given};
@@ -59,7 +60,8 @@ pub fn programs_are_built()
 
 /// In the form of each job of an accepted program that folds by operators that fold, each variable
 /// is in scope and bound once, constants are small, no term loads the job's own area, and what is
-/// loaded has a shape, also where it is never reached.
+/// loaded has a shape, also where it is never reached; no choice, turn or digit is of a constant, and
+/// constants leave room for the turns in the place of their variables.
 pub fn forms_keep()
     ensures each { (inputs : Lists) (items : List Item) (shapes : Shapes)
         → verdict_of items ≡ Ok shapes → AllByRecursion IsBuiltItem items
@@ -71,6 +73,20 @@ pub fn forms_keep()
         → slice_get (given inputs items) number ≡ Some array
         → slice_get (forms items) number ≡ Some (Some form)
         → IsKept tree_job.job.area (job_variables array.shape) form }
+    ensures varying { (inputs : Lists) (items : List Item) (shapes : Shapes) (number : ℕ)
+        (tree_job : TreeJob) (array : Given) (form : Normal)
+        → verdict_of items ≡ Ok shapes → AllByRecursion IsBuiltItem items
+        → slice_get (jobs items) number ≡ Some tree_job
+        → slice_get (given inputs items) number ≡ Some array
+        → slice_get (forms items) number ≡ Some (Some form)
+        → IsVarying form }
+    ensures roomy { (inputs : Lists) (items : List Item) (shapes : Shapes) (number : ℕ)
+        (tree_job : TreeJob) (array : Given) (form : Normal)
+        → verdict_of items ≡ Ok shapes → AllByRecursion IsBuiltItem items
+        → slice_get (jobs items) number ≡ Some tree_job
+        → slice_get (given inputs items) number ≡ Some array
+        → slice_get (forms items) number ≡ Some (Some form)
+        → IsRoomy [] form }
 {
     operators_keep();
     expressions_keep();

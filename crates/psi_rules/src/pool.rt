@@ -1,7 +1,8 @@
 // A pool of terms that grows.
-ghost use Rattle.std.specs.Prelude.{◌≡◌, ◌<◌, ◌≤◌, ◌++◌, [], ◌∷◌, IfOk, OnErr, OnOk, length, pos, suc};
+ghost use Rattle.std.specs.Prelude.{◌≡◌, ℕ, ◌+◌, ◌<◌, ◌≤◌, ◌++◌, [], ◌∷◌, IfOk, OnErr, OnOk, length, pos, suc};
 ghost use Rattle.std.specs.List.{AllByRecursion};
 ghost use Rattle.shapes_core.specs.Limits.{greatest_extent, most_items};
+ghost use Rattle.normal_form.specs.Cutting.{terms_in};
 ghost use Rattle.normal_form.specs.Forms.{Normal, Lit, Index, Un, Bin, Case, Fold, Let};
 ghost use Rattle.normal_form.specs.declared.term.Bind.TheVariants.{Digit, Flat, Turn};
 ghost use Rattle.normal_form.specs.Formers.{just};
@@ -74,7 +75,10 @@ impl Pool {
     pub(crate) fn push(&mut self, term: Term) -> Result<u32, NoMemory>
         requires operands { AllByRecursion (λ operand. operand < length self.old.terms) (operands term) }
         requires room { used self.old < most_items }
-        ensures adds { (form : Normal) → form_of (forms self.old.terms) term ≡ form → IfOk result (Adds form self.old self.new) }
+        ensures adds { (below : ℕ) (form : Normal) → form_of (forms self.old.terms) term ≡ form → terms_in form ≡ 1 + below
+            → IfOk result (Adds below form self.old self.new) }
+        ensures builds { (form : Normal) → form_of (forms self.old.terms) term ≡ form → terms_in form ≡ 1
+            → IfOk result (Builds (just form) self.old self.new) }
         ensures there { IfOk result (IsThere self.old self.new) }
         ensures one { IfOk result (λ number. used self.new ≡ suc (used self.old)) }
     {
@@ -117,7 +121,8 @@ impl Pool {
     pub(crate) fn un(&mut self, op: Unary, of: u32) -> Result<u32, NoMemory>
         requires there { of < length self.old.terms }
         requires room { used self.old < most_items }
-        ensures adds { (operand : Normal) → Stands self.old.terms of operand → IfOk result (Adds (Un op operand) self.old self.new) }
+        ensures adds { (operand : Normal) → Stands self.old.terms of operand
+            → IfOk result (Adds (terms_in operand) (Un op operand) self.old self.new) }
         ensures there { IfOk result (IsThere self.old self.new) }
         ensures one { IfOk result (λ number. used self.new ≡ suc (used self.old)) }
     {
@@ -130,7 +135,7 @@ impl Pool {
         requires second { right < length self.old.terms }
         requires room { used self.old < most_items }
         ensures adds { (one other : Normal) → Stands self.old.terms left one → Stands self.old.terms right other
-            → IfOk result (Adds (Bin op one other) self.old self.new) }
+            → IfOk result (Adds (terms_in one + terms_in other) (Bin op one other) self.old self.new) }
         ensures there { IfOk result (IsThere self.old self.new) }
         ensures one { IfOk result (λ number. used self.new ≡ suc (used self.old)) }
     {
@@ -150,7 +155,7 @@ impl Pool {
         requires small { extent ≤ greatest_extent }
         requires room { used self.old < most_items }
         ensures adds { (one other : Normal) → Stands self.old.terms yes one → Stands self.old.terms no other
-            → IfOk result (Adds (Case left (pos extent) one other) self.old self.new) }
+            → IfOk result (Adds (terms_in one + terms_in other) (Case left (pos extent) one other) self.old self.new) }
         ensures there { IfOk result (IsThere self.old self.new) }
         ensures one { IfOk result (λ number. used self.new ≡ suc (used self.old)) }
     {
@@ -167,7 +172,8 @@ impl Pool {
     pub(crate) fn fold(&mut self, op: Op, var: u32, high: u64, of: u32) -> Result<u32, NoMemory>
         requires there { of < length self.old.terms }
         requires room { used self.old < most_items }
-        ensures adds { (operand : Normal) → Stands self.old.terms of operand → IfOk result (Adds (Fold op var 0 high operand) self.old self.new) }
+        ensures adds { (operand : Normal) → Stands self.old.terms of operand
+            → IfOk result (Adds (terms_in operand) (Fold op var 0 high operand) self.old self.new) }
         ensures there { IfOk result (IsThere self.old self.new) }
         ensures one { IfOk result (λ number. used self.new ≡ suc (used self.old)) }
     {
@@ -184,7 +190,8 @@ impl Pool {
     pub(crate) fn bound(&mut self, var: u32, bind: Bind, of: u32) -> Result<u32, NoMemory>
         requires there { of < length self.old.terms }
         requires room { used self.old < most_items }
-        ensures adds { (operand : Normal) → Stands self.old.terms of operand → IfOk result (Adds (Let var bind operand) self.old self.new) }
+        ensures adds { (operand : Normal) → Stands self.old.terms of operand
+            → IfOk result (Adds (terms_in operand) (Let var bind operand) self.old self.new) }
         ensures there { IfOk result (IsThere self.old self.new) }
         ensures one { IfOk result (λ number. used self.new ≡ suc (used self.old)) }
     {
@@ -203,7 +210,7 @@ impl Pool {
         requires there { of < length self.old.terms }
         requires room { used self.old < most_items }
         ensures adds { (operand : Normal) → Stands self.old.terms of operand
-            → IfOk result (Adds (Let var (Turn entry by extent) operand) self.old self.new) }
+            → IfOk result (Adds (terms_in operand) (Let var (Turn entry by extent) operand) self.old self.new) }
         ensures there { IfOk result (IsThere self.old self.new) }
         ensures one { IfOk result (λ number. used self.new ≡ suc (used self.old)) }
     {
@@ -228,7 +235,7 @@ impl Pool {
         requires there { of < length self.old.terms }
         requires room { used self.old < most_items }
         ensures adds { (operand : Normal) → Stands self.old.terms of operand
-            → IfOk result (Adds (Let var (Digit flat weight extent) operand) self.old self.new) }
+            → IfOk result (Adds (terms_in operand) (Let var (Digit flat weight extent) operand) self.old self.new) }
         ensures there { IfOk result (IsThere self.old self.new) }
         ensures one { IfOk result (λ number. used self.new ≡ suc (used self.old)) }
     {
@@ -252,7 +259,7 @@ impl Pool {
         requires there { of < length self.old.terms }
         requires room { used self.old < most_items }
         ensures adds { (operand : Normal) → Stands self.old.terms of operand
-            → IfOk result (Adds (Let var (Flat entries.now shape.now) operand) self.old self.new) }
+            → IfOk result (Adds (terms_in operand) (Let var (Flat entries.now shape.now) operand) self.old self.new) }
         ensures there { IfOk result (IsThere self.old self.new) }
         ensures one { IfOk result (λ number. used self.new ≡ suc (used self.old)) }
     {

@@ -11,6 +11,7 @@ ghost use Rattle.normal_form.specs.Forms.{Let, Normal};
 ghost use Rattle.normal_form.specs.declared.term.Bind.TheVariants.{Flat};
 ghost use Rattle.moa_tree.specs.Axes.{on_axis, own_index};
 ghost use Rattle.normal_form.specs.Moves.{behind_entry};
+ghost use Rattle.normal_form.specs.Cutting.{Scope, terms_in};
 ghost use Rattle.normal_form.specs.Keeps.{AreWithin};
 ghost use Rattle.psi_rules.specs.Building.{Adds, Builds, IsThere, Stands, flat_by, used};
 ghost use Rattle.psi_rules.specs.Fitting.{ArePlaces, IsDigitWithin, IsFit};
@@ -50,7 +51,7 @@ pub(crate) fn offset_in(checked: &Checked, number: u32, entries: &Entries) -> Di
     requires places { ArePlaces entries.now (slice_index_or checked.now.shapes number []) }
     ensures offset { (rest : AnEntry → Making) → flattening (slice_index_or checked.now.shapes number []) entries.now rest
         ≡ flat_by result (slice_index_or checked.now.shapes number []) entries.now rest }
-    ensures within { (room : ℕ) (known : List ℕ) → AreWithin room known entries.now (slice_index_or checked.now.shapes number [])
+    ensures within { (room : ℕ) (known : Scope) → AreWithin room known entries.now (slice_index_or checked.now.shapes number [])
         → IsDigitWithin result room known (total (slice_index_or checked.now.shapes number [])) }
 {
     offset_entry(&checked.shape_of(number), entries)
@@ -70,7 +71,8 @@ pub(crate) fn push_offset(
     requires there { of < length pool.old.terms }
     requires room { used pool.old < most_items }
     ensures adds { (operand : Normal) → Stands pool.old.terms of operand
-        → IfOk result (Adds (Let var (Flat entries.now (slice_index_or checked.now.shapes number [])) operand) pool.old pool.new) }
+        → IfOk result (Adds (terms_in operand) (Let var (Flat entries.now (slice_index_or checked.now.shapes number [])) operand)
+        pool.old pool.new) }
     ensures there { IfOk result (IsThere pool.old pool.new) }
     ensures one { IfOk result (λ term. used pool.new ≡ suc (used pool.old)) }
 {

@@ -3,6 +3,7 @@ ghost use Rattle.std.specs.Prelude.{◌≡◌, ◌+◌, ◌≤◌, ℕ, List};
 ghost use Rattle.shapes_core.specs.Limits.{greatest_extent};
 ghost use Rattle.normal_form.specs.declared.entry.Entry.TheVariants.{At};
 ghost use Rattle.normal_form.specs.Formers.{Making, joining};
+ghost use Rattle.normal_form.specs.Cutting.{Scope};
 ghost use Rattle.normal_form.specs.Keeps.{IsWithin};
 ghost use Rattle.psi_rules.specs.Building.{sided};
 ghost use Rattle.psi_rules.specs.Fitting.{IsWithinSide};
@@ -23,7 +24,7 @@ fn side_of(constant: i64, n: u64) -> Side
     requires { n ≤ greatest_extent }
     ensures joins { (m : ℕ) (first second : Making) → (n ≡ 0 → ⊥) → (m ≡ 0 → ⊥)
         → joining n m (At constant) first second ≡ sided result n (At constant) first second }
-    ensures within { (room m : ℕ) (known : List ℕ) → IsWithin room known (At constant) (n + m)
+    ensures within { (room m : ℕ) (known : Scope) → IsWithin room known (At constant) (n + m)
         → IsWithinSide result room known n m (At constant) }
 {
     if constant < signed(n) {
@@ -37,7 +38,7 @@ fn side_of(constant: i64, n: u64) -> Side
 pub(crate) fn reached(n: u64, m: u64, entry: Entry) -> Side
     requires { n ≤ greatest_extent }
     ensures joins { (first second : Making) → joining n m entry first second ≡ sided result n entry first second }
-    ensures within { (room : ℕ) (known : List ℕ) → IsWithin room known entry (n + m) → IsWithinSide result room known n m entry }
+    ensures within { (room : ℕ) (known : Scope) → IsWithin room known entry (n + m) → IsWithinSide result room known n m entry }
 {
     if n == 0 {
         return Side::Second;

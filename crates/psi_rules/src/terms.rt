@@ -1,6 +1,7 @@
 // The terms of the form of an expression.
-ghost use Rattle.std.specs.Prelude.{◌≡◌, ◌<◌, IfOk, length};
-ghost use Rattle.normal_form.specs.Kept.{form_in};
+ghost use Rattle.std.specs.Prelude.{◌≡◌, ◌<◌, ◌≤◌, IfOk, length};
+ghost use Rattle.normal_form.specs.Cutting.{terms_in};
+ghost use Rattle.normal_form.specs.Kept.{form_in, top_form};
 ghost use Rattle.normal_form.specs.Moves.{variables};
 ghost use Rattle.shapes_core.specs.Shape.{total};
 ghost use Rattle.shape_check.specs.Judged.{items_in, node_tree};
@@ -22,7 +23,7 @@ use shapes_core::{NoMemory, total};
 use std::alloc::Global;
 
 /// The terms of the form of a node of a statement at the index vector of its variables, the top one
-/// last; none where its array has no element.
+/// last; none where its array has no element. As a tree the form has no more terms than there are.
 pub(crate) fn terms_of(
     alloc: Global,
     checked: &Checked,
@@ -40,6 +41,8 @@ pub(crate) fn terms_of(
         → IfOk result (λ terms. form_in terms.items ≡ job_form (shape_in names (node_tree checked.now.pools number))
         (form names place.scan (node_tree checked.now.pools number))) }
     ensures pool { IfOk result (λ terms. IsPool terms.items) }
+    ensures counted { (names : Names) → IsReady checked.now tables.now place.statement names number
+        → IfOk result (λ terms. 0 < length terms.items → terms_in (top_form terms.items) ≤ length terms.items) }
 {
     let shape = checked.shape_of(number);
     if total(&shape) == 0 {

@@ -6,6 +6,7 @@ ghost use Rattle.moa_tree.specs.Axes.{turned};
 ghost use Rattle.normal_form.specs.declared.entry.Entry.{Entry as AnEntry};
 ghost use Rattle.normal_form.specs.declared.entry.Entry.TheVariants.{At};
 ghost use Rattle.normal_form.specs.Formers.{Making, turning};
+ghost use Rattle.normal_form.specs.Cutting.{Scope};
 ghost use Rattle.normal_form.specs.Keeps.{IsWithin};
 ghost use Rattle.normal_form.specs.Moves.{turned_constant};
 ghost use Rattle.psi_rules.specs.Building.{turned_by};
@@ -58,7 +59,7 @@ pub(crate) fn turn_entry(by: u64, n: u64, entry: Entry) -> Turned
     requires small { n ≤ greatest_extent }
     requires place { IsPlace entry n }
     ensures turns { (rest : AnEntry → Making) → turning by n entry rest ≡ turned_by result by n entry rest }
-    ensures within { (room : ℕ) (known : List ℕ) → IsWithin room known entry n → IsTurnWithin result room known n }
+    ensures within { (room : ℕ) (known : Scope) → IsWithin room known entry n → IsTurnWithin result room known n }
 {
     if by == 0 {
         return Turned::Found(entry);

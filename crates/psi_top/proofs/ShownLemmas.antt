@@ -16,13 +16,16 @@ use Rattle.normal_form.specs.Kept.{Parts, form_in}
 use Rattle.psi_rules.specs.Jobs.{forms}
 use Rattle.psi_rules.specs.Reduced.{IsReduced}
 use Rattle.psi_rules.specs.Scopes.{job_shapes}
+use Rattle.stride_form.specs.Operational.{Operational}
+use Rattle.stride_form.specs.Rules.{operational_on}
 use Rattle.psi_top.proofs.ReportLemmas.{pair-more}
+use Rattle.form_text.specs.Spelling.{operational_line}
 use Rattle.form_text.specs.NestSpelling.{nest_lines}
 use Rattle.loop_ir.specs.Pool.{tree}
 use Rattle.loop_ir.specs.declared.step.Step.{Step}
 use Rattle.moa_tree.specs.declared.tree.Job.{Job}
 use Rattle.nest_jobs.specs.Leads.{nests}
-use Rattle.psi_top.specs.Shown.{formed, nest, nest_first, nest_rows, shown, shown_first, spelled_all, spelled_as}
+use Rattle.psi_top.specs.Shown.{formed, nest, nest_first, nest_rows, shown, shown_first, spelled_all, spelled_as, strided_line}
 use Rattle.psi_top.specs.declared.forms.FormKind.{FormKind}
 use Rattle.psi_top.specs.declared.forms.FormKind.TheVariants as kind
 
@@ -44,6 +47,17 @@ same-line : (of : FormKind) (among : List Area) (nodes : List ℕ) (tree_job : T
     → spelled_as of among tree_job.job shape form ≡ spelled_as of among (pooled nodes tree_job) shape form
 same-line kind.Normal among nodes tree_job shape form = refl
 same-line kind.Operational among nodes tree_job shape form = refl
+
+-- the line of what is made of a form on the whole of its array
+pub same-strided : (among : List Area) (parts : Parts) (job : Job) (shape : List ℕ) (made : Option Operational) → job ≡ parts.job
+    → shape ≡ parts.shape → made ≡ option_map (operational_on parts.region) (form_in parts.terms)
+    → parts.region ≡ map (λ n. (0, n)) parts.shape
+    → operational_line among job shape made ≡ strided_line among parts.job parts.shape (form_in parts.terms)
+same-strided among parts job shape made jobs shapes tree whole =
+    ap (λ (one : Job). operational_line among one shape made) jobs
+    ∙ ap (λ (extents : List ℕ). operational_line among parts.job extents made) shapes
+    ∙ ap (operational_line among parts.job parts.shape)
+    (tree ∙ ap (λ (region : List (ℕ × ℕ)). option_map (operational_on region) (form_in parts.terms)) whole)
 
 -- the lines before a job, and its own
 pub line-more : (of : FormKind) (checking : Checking) (number : ℕ) (parts : Parts) → IsChecked checking → IsReduced checking number parts

@@ -1,5 +1,5 @@
 -- The forms of a program as text, a line a job, and its nests. This project's own, after Mullin and Thibault (1994).
-use Rattle.std.specs.Prelude.{ℕ, List, Option, take}
+use Rattle.std.specs.Prelude.{ℕ, List, Option, map, take}
 use Rattle.std.specs.List.{flat_map, zip}
 use Rattle.std.specs.Option.{option_map}
 use Rattle.shapes_core.specs.declared.area.Area.{Area}
@@ -10,7 +10,7 @@ use Rattle.shape_check.specs.Layout.{areas}
 use Rattle.normal_form.specs.Forms.{Normal}
 use Rattle.psi_rules.specs.Jobs.{forms}
 use Rattle.psi_rules.specs.Scopes.{job_shapes}
-use Rattle.stride_form.specs.Operational.{operational}
+use Rattle.stride_form.specs.Rules.{operational_on}
 use Rattle.form_text.specs.NestSpelling.{nest_lines}
 use Rattle.form_text.specs.Spelling.{normal_line, operational_line}
 use Rattle.loop_ir.specs.Steps.{Steps}
@@ -22,9 +22,9 @@ use Rattle.psi_top.specs.declared.forms.FormKind.TheVariants as kind
 abbrev pub Spelled : Type 0
 Spelled = List Area → Job → List ℕ → Option Normal → List ℕ
 
--- its line, with each load by a start and strides
+-- its line, with each load by a start and strides, and without index arithmetic that undoes itself on the whole of its array
 abbrev pub strided_line : Spelled
-strided_line areas job shape form = operational_line areas job shape (option_map operational form)
+strided_line areas job shape form = operational_line areas job shape (option_map (operational_on (map (λ n. (0, n)) shape)) form)
 
 -- a job with the shape of its array and its form
 abbrev pub Formed : Type 0

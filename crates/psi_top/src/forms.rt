@@ -1,10 +1,10 @@
 // The text of a program's forms.
-ghost use Rattle.std.specs.Prelude.{◌≡◌, ◌<◌, ◌+◌, length, IfOk, IsOk, OnOk};
+ghost use Rattle.std.specs.Prelude.{◌≡◌, ◌<◌, ◌+◌, length, map, IfOk, IsOk, OnOk};
 ghost use Rattle.shape_check.specs.Judged.{items_in};
 ghost use Rattle.shape_check.specs.Statements.{verdict_of};
 ghost use Rattle.normal_form.specs.Kept.{form_in};
 ghost use Rattle.psi_rules.specs.Tables.{AreTables};
-ghost use Rattle.psi_top.specs.Shown.{shown, shown_first, spelled_as};
+ghost use Rattle.psi_top.specs.Shown.{shown, shown_first, spelled_as, strided_line};
 
 use form_text::{normal_text, operational_text};
 use normal_form::Normal;
@@ -23,21 +23,28 @@ pub(crate) enum FormKind {
     Operational,
 }
 
-/// The line of a job with its form.
+/// The line of a job with its operational form, on the whole of its array.
+fn strided_line(alloc: Global, normal: &Normal, layout: &Layout) -> Result<Vec<u8>, NoMemory>
+    requires whole { normal.now.region ≡ map (λ n. (0, n)) normal.now.shape }
+    ensures { IfOk result (λ line. line.items ≡ strided_line layout.now normal.now.job normal.now.shape (form_in normal.now.terms)) }
+{
+    let operational = to_operational(alloc, normal)?;
+    operational_text(alloc, &operational, layout)
+}
+
+/// The line of a job with its form, on the whole of its array.
 fn line_of(
     alloc: Global,
     kind: FormKind,
     normal: &Normal,
     layout: &Layout,
 ) -> Result<Vec<u8>, NoMemory>
+    requires whole { normal.now.region ≡ map (λ n. (0, n)) normal.now.shape }
     ensures { IfOk result (λ line. line.items ≡ spelled_as kind layout.now normal.now.job normal.now.shape (form_in normal.now.terms)) }
 {
     match kind {
         FormKind::Normal => normal_text(alloc, normal, layout),
-        FormKind::Operational => {
-            let operational = to_operational(alloc, normal)?;
-            operational_text(alloc, &operational, layout)
-        }
+        FormKind::Operational => strided_line(alloc, normal, layout),
     }
 }
 

@@ -1,5 +1,26 @@
-pub mod ConversionLemmas
+pub mod BindingLemmas
+pub mod ChainLemmas
+pub mod EntryLemmas
+pub mod FollowBindLemmas
+pub mod FollowEntryLemmas
+pub mod FollowFactLemmas
+pub mod FollowJobLemmas
+pub mod FollowMakeLemmas
+pub mod FollowMoveLemmas
+pub mod FollowReshapeLemmas
+pub mod FoundLemmas
 pub mod MeaningLemmas
+pub mod NearLemmas
+pub mod NeededLemmas
+pub mod OpPoolLemmas
+pub mod PassKeptLemmas
+pub mod PassLemmas
 pub mod PlaceLemmas
 mod PoolLemmas
+pub mod StartLemmas
 pub mod StrideLemmas
+pub mod TableLemmas
+pub mod TermLemmas
+pub mod TrueLemmas
+pub mod WalkLemmas
+pub mod WriteLemmas

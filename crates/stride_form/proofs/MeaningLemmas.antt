@@ -15,7 +15,7 @@ use Rattle.stride_form.specs.Places.{IsFineAccess}
 use Rattle.stride_form.proofs.PlaceLemmas.{at-place, place-offset}
 
 -- two families of numbers that agree on a range
-range-agrees : (f g : ℕ → ℤ) (from count : ℕ) → ((k : ℕ) → from ≤ k → k < from + count → f k ≡ g k)
+pub range-agrees : (f g : ℕ → ℤ) (from count : ℕ) → ((k : ℕ) → from ≤ k → k < from + count → f k ≡ g k)
     → map f (range_with_len from count) ≡ map g (range_with_len from count)
 range-agrees f g from zero same = refl
 range-agrees f g from (suc count) same =
@@ -23,7 +23,7 @@ range-agrees f g from (suc count) same =
     (range-agrees f g (from + 1) count (λ k low high. same k (omega arith) (omega arith)))
 
 -- a choice of which the part that is taken agrees
-choice-agrees : (test : Bool) (f g h k : Assignment → ℤ) (m : Assignment) → (test ≡ true → f m ≡ h m) → (test ≡ false → g m ≡ k m)
+pub choice-agrees : (test : Bool) (f g h k : Assignment → ℤ) (m : Assignment) → (test ≡ true → f m ≡ h m) → (test ≡ false → g m ≡ k m)
     → chosen test f g m ≡ chosen test h k m
 choice-agrees true f g h k m first second = first refl
 choice-agrees false f g h k m first second = second refl

@@ -11,7 +11,8 @@ use Rattle.normal_form.specs.declared.entry.Entry.TheVariants.{At, Plus, Minus}
 use Rattle.normal_form.specs.Assignments.{Assignment, number, place, places}
 use Rattle.normal_form.specs.Forms.{Element}
 use Rattle.normal_form.specs.Stands.{AreIndex, StandFor}
-use Rattle.stride_form.specs.Accesses.{Steps, Walk, access_of, place_of, walk_of, walked, with_entry, with_stride}
+use Rattle.stride_form.specs.declared.walk.Walk.{Walk}
+use Rattle.stride_form.specs.Accesses.{Steps, access_of, place_of, walk_of, walked, with_entry, with_stride}
 use Rattle.stride_form.specs.Places.{IsAtPlace}
 
 -- ---- numbers

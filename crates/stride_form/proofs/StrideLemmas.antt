@@ -1,22 +1,23 @@
 -- Where a stride is added, and the walk of entries with one more.
-use Rattle.std.specs.Prelude.{◌≡◌, ℕ, zero, suc, ◌+◌, ◌*◌, ◌^◌, ◌<◌, ◌≤◌, ◌⊎◌, ◌==◌, max, ℤ, pos, negsuc, ◌+ℤ◌, ◌-ℤ◌, ◌*ℤ◌, unsigned_abs}
+use Rattle.std.specs.Prelude.{◌≡◌, ℕ, zero, suc, ◌+◌, ◌*◌, ◌^◌, ◌<◌, ◌≤◌, ◌⊎◌, ◌==◌, ℤ, pos, ◌+ℤ◌, ◌-ℤ◌, ◌*ℤ◌, unsigned_abs}
 use Rattle.std.specs.Prelude.{Bool, true, false, if◌then◌else◌, List, [], ◌∷◌, length, nat_lt, slice_index_or, slice_set}
-use Rattle.std.specs.Int.{int_wrap, w64}
+use Rattle.std.specs.Int.{w64}
+use Rattle.std.specs.Prelude.{FitsSigned}
 use Rattle.std.specs.List.{insert}
-use Rattle.std.proofs.Common.{refl, sym, ap, ap₂, ◌∙◌, arith, inl, inr, ne_eqb, eq-eqb, le-ltb, lt-ltb}
-use Rattle.std.proofs.Math.Nat.{mul-le-mul, mul-le-mul_left}
+use Rattle.std.proofs.Common.{refl, sym, ap, ap₂, ◌∙◌, arith, inl, inr, of_z, to_z, ne_eqb, eq-eqb, le-ltb, lt-ltb}
+use Rattle.std.proofs.Math.Nat.{mul-le-mul}
 use Rattle.std.proofs.lemmas.Bool.{cond-false, cond-true}
-use Rattle.std.proofs.lemmas.Bool.Decides.{nat_tests}
-use Rattle.std.proofs.lemmas.Int.{fits_signed_from_abs, int_wrap-add_left, int_wrap_fits, ints, unsigned_abs-mul}
+use Rattle.std.proofs.lemmas.Int.{fits_signed_from_abs, ints, to_z-of_z, unsigned_abs-mul}
 use Rattle.shapes_core.specs.Limits.{greatest_extent}
-use Rattle.shapes_core.specs.Shape.{IsShape, span, total}
+use Rattle.shapes_core.specs.Shape.{span, total}
 use Rattle.shapes_core.proofs.DigitLemmas.{span-total}
-use Rattle.shapes_core.proofs.SpanLemmas.{span_drop, span_pos, span_within}
+use Rattle.shapes_core.proofs.SpanLemmas.{span_drop}
 use Rattle.normal_form.specs.declared.entry.Entry.{Entry}
 use Rattle.normal_form.specs.declared.entry.Entry.TheVariants.{At, Plus, Minus}
-use Rattle.normal_form.specs.Forms.{Element}
-use Rattle.normal_form.specs.Kept.{AreEntries, IsEntry}
-use Rattle.stride_form.specs.Accesses.{AreNear, Steps, Walk, access_of, constant_of, strides_with, walk_of, with_stride, word_access}
+use Rattle.stride_form.specs.declared.walk.Walk.{Walk}
+use Rattle.stride_form.specs.Accesses.{AreNear, Steps, constant_of, strides_with, walk_of, with_stride}
+use Rattle.stride_form.specs.Kept.{most_constant}
+use Rattle.stride_form.specs.Small.{AreNearEntries}
 
 abbrev pub var_at : Steps → ℕ → ℕ
 var_at steps place = (slice_index_or steps place (0, pos 0)).0
@@ -58,7 +59,7 @@ stride-new var stride (first ∷ others) (suc place) within smaller next =
 
 -- ---- how great strides are, and how many
 
-nearer : (few most : ℕ) (steps : Steps) → few ≤ most → AreNear few steps → AreNear most steps
+pub nearer : (few most : ℕ) (steps : Steps) → few ≤ most → AreNear few steps → AreNear most steps
 nearer few most [] h near = tt
 nearer few most (first ∷ others) h near = (omega (arith, h, near.0), nearer few most others h near.1)
 
@@ -154,14 +155,11 @@ walk-none (entry ∷ entries) (n ∷ extents) (inr none) = absurd (omega (arith,
 
 -- with an entry in front, the start and the strides are those of the rest with it
 pub start-more : (all entries : List Entry) (entry : Entry) (shape extents : List ℕ) (n : ℕ) (w start made : ℤ)
-    → all ≡ entry ∷ entries → shape ≡ n ∷ extents → w ≡ pos (total extents) → start ≡ int_wrap w64 (walk_of entries extents).start
-    → made ≡ int_wrap w64 (start +ℤ w *ℤ constant_of entry) → made ≡ int_wrap w64 (walk_of all shape).start
+    → all ≡ entry ∷ entries → shape ≡ n ∷ extents → w ≡ pos (total extents) → start ≡ (walk_of entries extents).start
+    → made ≡ start +ℤ w *ℤ constant_of entry → made ≡ (walk_of all shape).start
 start-more all entries entry shape extents n w start made front outer weight before made_so =
-    let walk = walk_of entries extents in
-    made_so ∙ ap (λ z. int_wrap w64 (z +ℤ w *ℤ constant_of entry)) before
-    ∙ int_wrap-add_left w64 walk.start (w *ℤ constant_of entry)
-    ∙ ap (λ z. int_wrap w64 (walk.start +ℤ z *ℤ constant_of entry)) weight
-    ∙ sym (ap₂ (λ list extents. int_wrap w64 (walk_of list extents).start) front outer)
+    made_so ∙ ap₂ (λ start weight. start +ℤ weight *ℤ constant_of entry) before weight
+    ∙ sym (ap₂ (λ list extents. (walk_of list extents).start) front outer)
 
 pub strides-more : (all entries : List Entry) (entry : Entry) (shape extents : List ℕ) (n : ℕ) (w : ℤ) (strides made : Steps)
     → all ≡ entry ∷ entries → shape ≡ n ∷ extents → w ≡ pos (total extents) → strides ≡ (walk_of entries extents).strides
@@ -170,40 +168,49 @@ strides-more all entries entry shape extents n w strides made front outer weight
     made_so ∙ ap₂ (λ z list. strides_with z entry list) weight before
     ∙ sym (ap₂ (λ list extents. (walk_of list extents).strides) front outer)
 
--- ---- the start of a load of a form
+-- ---- how great a start is
 
-step-start : (w k : ℕ) (s c : ℤ) → w ≤ 2 ^ 24 → unsigned_abs c ≤ 2 ^ 34 → unsigned_abs s ≤ k * 2 ^ 58
-    → unsigned_abs (s +ℤ pos w *ℤ c) ≤ suc k * 2 ^ 58
-step-start w k s c weight constant start =
-    let product : unsigned_abs (pos w *ℤ c) ≤ 2 ^ 24 * 2 ^ 34 = omega (arith, unsigned_abs-mul (pos w) c, mul-le-mul weight constant) in
-    let sum = sum-near (k * 2 ^ 58) (2 ^ 24 * 2 ^ 34) s (pos w *ℤ c) start product in
-    omega (arith, sum)
+abbrev pub most_start : ℕ
+most_start = greatest_extent * most_constant
 
-small-constant : (known : List ℕ) (entry : Entry) (n : ℕ) → n ≤ 2 ^ 24 → IsEntry known entry n → unsigned_abs (constant_of entry) ≤ 2 ^ 34
-small-constant known (At (pos constant)) n small h = omega (arith, small, h)
-small-constant known (At (negsuc constant)) n small h = elim h [ ]
-small-constant known (Plus var add) n small h = h.1
-small-constant known (Minus var add) n small h = h.1
+product-small : (w c : ℤ) → unsigned_abs w ≤ greatest_extent → unsigned_abs c ≤ most_constant → unsigned_abs (w *ℤ c) ≤ most_start
+product-small w c weight constant = omega (arith, unsigned_abs-mul w c, mul-le-mul weight constant)
 
-start-small : (known : List ℕ) (entries : List Entry) (shape : List ℕ) → span shape ≤ 2 ^ 24 → AreEntries known entries shape
-    → unsigned_abs (walk_of entries shape).start ≤ length shape * 2 ^ 58
-start-small known [] [] small h = omega arith
-start-small known [] (n ∷ shape) small h = elim h [ ]
-start-small known (entry ∷ entries) [] small h = elim h [ ]
-start-small known (entry ∷ entries) (n ∷ shape) small h =
-    let rest = small-rest n shape (2 ^ 24) small in
-    step-start (total shape) (length shape) (walk_of entries shape).start (constant_of entry) (small-total shape (2 ^ 24) rest)
-    (small-constant known entry n (first-extent n shape small) h.0) (start-small known entries shape rest h.1) where
-      first-extent : (n : ℕ) (shape : List ℕ) → span (n ∷ shape) ≤ 2 ^ 24 → n ≤ 2 ^ 24
-      first-extent n shape small =
-          let one : max n 1 * 1 ≤ max n 1 * span shape = mul-le-mul_left (max n 1) (span_pos shape) in
-          omega (arith, one, small)
+pub product-fits : (w c : ℤ) → unsigned_abs w ≤ greatest_extent → unsigned_abs c ≤ most_constant → FitsSigned w64 (w *ℤ c)
+product-fits w c weight constant = fits_signed_from_abs w64 (w *ℤ c) (omega (arith, product-small w c weight constant))
 
--- it is a word as it is
-pub word-start : (known : List ℕ) (element : Element) → AreEntries known element.at element.shape → IsShape element.shape
-    → word_access element ≡ access_of element
-word-start known element entries shaped =
-    let small = start-small known element.at element.shape (span_within element.shape shaped) entries in
-    let few : length element.shape ≤ 6 = grind (arith, nat_tests, shaped) in
-    ap (λ start. record { area = element.area; start = start; strides = (walk_of element.at element.shape).strides })
-    (int_wrap_fits w64 _ (fits_signed_from_abs w64 _ (omega (arith, small, few))))
+pub start-fits : (w c start : ℤ) → unsigned_abs w ≤ greatest_extent → unsigned_abs c ≤ most_constant → unsigned_abs start ≤ 5 * most_start
+    → FitsSigned w64 (start +ℤ w *ℤ c)
+start-fits w c start weight constant room =
+    fits_signed_from_abs w64 (start +ℤ w *ℤ c)
+    (omega (arith, sum-near (5 * most_start) most_start start (w *ℤ c) room (product-small w c weight constant)))
+
+-- the sum as 64 bits hold it
+pub start-word : (w c given start : ℤ) → given ≡ c → FitsSigned w64 w → FitsSigned w64 start
+    → unsigned_abs w ≤ greatest_extent → unsigned_abs c ≤ most_constant → unsigned_abs start ≤ 5 * most_start
+    → to_z w64 (of_z w64 (to_z w64 (of_z w64 start) +ℤ to_z w64 (of_z w64 (to_z w64 (of_z w64 w) *ℤ to_z w64 (of_z w64 given))))) ≡ start +ℤ w *ℤ c
+start-word w c given start same fits_weight fits_start weight constant room =
+    let other : to_z w64 (of_z w64 given) ≡ c =
+    ap (λ z. to_z w64 (of_z w64 z)) same ∙ to_z-of_z w64 c (fits_signed_from_abs w64 c (omega (arith, constant))) in
+    let product : to_z w64 (of_z w64 (to_z w64 (of_z w64 w) *ℤ to_z w64 (of_z w64 given))) ≡ w *ℤ c =
+    ap₂ (λ a b. to_z w64 (of_z w64 (a *ℤ b))) (to_z-of_z w64 w fits_weight) other ∙ to_z-of_z w64 (w *ℤ c) (product-fits w c weight constant) in
+    ap₂ (λ a b. to_z w64 (of_z w64 (a +ℤ b))) (to_z-of_z w64 start fits_start) product
+    ∙ to_z-of_z w64 (start +ℤ w *ℤ c) (start-fits w c start weight constant room)
+
+pub start-small : (entries : List Entry) (shape : List ℕ) → span shape ≤ greatest_extent → AreNearEntries entries
+    → unsigned_abs (walk_of entries shape).start ≤ length entries * most_start
+start-small [] shape small near = omega arith
+start-small (entry ∷ entries) [] small near = omega arith
+start-small (entry ∷ entries) (n ∷ shape) small near =
+    let rest = small-rest n shape greatest_extent small in
+    let weight : unsigned_abs (pos (total shape)) ≤ greatest_extent = small-total shape greatest_extent rest in
+    omega (
+      arith,
+      sum-near (length entries * most_start) most_start (walk_of entries shape).start (pos (total shape) *ℤ constant_of entry)
+          (start-small entries shape rest near.1) (product-small (pos (total shape)) (constant_of entry) weight near.0),
+    )
+
+-- the start of at most five entries leaves room for one more
+pub start-room : (entries : List Entry) (shape : List ℕ) → length entries ≤ 5 → span shape ≤ greatest_extent → AreNearEntries entries
+    → unsigned_abs (walk_of entries shape).start ≤ 5 * most_start
+start-room entries shape few small near = omega (arith, start-small entries shape small near, few)

@@ -10,14 +10,11 @@ use Rattle.normal_form.specs.Assignments.{Assignment}
 use Rattle.normal_form.specs.Forms.{Element}
 use Rattle.normal_form.specs.Meaning.{Store}
 use Rattle.stride_form.specs.declared.access.Access.{Access}
+use Rattle.stride_form.specs.declared.walk.Walk.{Walk}
 
--- a start, and the strides of variables, by rising variable
+-- the strides of variables, by rising variable
 abbrev pub Steps : Type 0
 Steps = List (ℕ × ℤ)
-
-pub record Walk : Type 0 where
-  pub start : ℤ
-  pub strides : Steps
 
 -- the strides with one more of a variable
 abbrev pub with_stride : ℕ → ℤ → Steps → Steps

@@ -1,5 +1,16 @@
 pub mod Accesses
+pub mod Bindings
+pub mod Chains
+pub mod Exact
+pub mod Facts
+pub mod Follows
 pub mod Kept
+pub mod KeptFacts
+pub mod OpFormers
 pub mod Operational
 pub mod Places
 pub mod Pool
+pub mod RuleExamples
+pub mod Rules
+pub mod Small
+pub mod Writing

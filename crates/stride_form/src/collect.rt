@@ -1,46 +1,64 @@
-// The access that a load is: its entries collected by variables, from the last axis to the first.
-ghost use Rattle.std.specs.Prelude.{◌≡◌, ◌≤◌, ◌<◌, ◌^◌, ◌+ℤ◌, ◌*ℤ◌, ℕ, [], pos, IfOk, length, slice_index_or, unsigned_abs};
-ghost use Rattle.std.specs.Int.{int_wrap, w64};
+// The row-major offset of entries, collected by variables, from the last axis to the first.
+ghost use Rattle.std.specs.Prelude.{◌≡◌, ◌≤◌, ◌<◌, ◌^◌, ◌+ℤ◌, ◌*ℤ◌, ◌*◌, ℕ, [], pos, IfOk, length, slice_index_or, unsigned_abs};
 ghost use Rattle.shapes_core.specs.Limits.{greatest_extent};
 ghost use Rattle.shapes_core.specs.Shape.{span, total};
-ghost use Rattle.stride_form.specs.Accesses.{AreNear, constant_of, strides_with, walk_of, with_stride, word_access};
+ghost use Rattle.stride_form.specs.Accesses.{AreNear, constant_of, strides_with, walk_of, with_stride};
+ghost use Rattle.stride_form.specs.Facts.{own_walk};
+ghost use Rattle.stride_form.specs.Kept.{most_constant};
+ghost use Rattle.stride_form.specs.Small.{AreNearEntries, IsNear};
 
-use crate::access::Access;
-use normal_form::{Entries, Entry, Strides};
+use crate::walk::Walk;
+use normal_form::{Entry, Strides};
 use shapes_core::laws::span_laws;
 use shapes_core::{NoMemory, Shape};
 use std::alloc::Global;
 
-/// The row-major offset of entries in a shape, with its start as a word.
+/// The row-major offset of entries in a shape.
 #[derive(Drop)]
 struct Walked {
     start: i64,
     strides: Vec<(u32, i64)>,
 }
 
-/// The access that the load of an area of this shape is at entries.
-pub(crate) fn access(
-    alloc: Global,
-    area: u32,
-    shape: &Shape,
-    at: &Entries,
-) -> Result<Access, NoMemory>
-    ensures { IfOk result (λ access.
-        access ≡ word_access (record { area = area; shape = shape.now; at = at.now })) }
+/// The offset of entries in a shape.
+pub(crate) fn walk_of(alloc: Global, entries: &[Entry], shape: &Shape) -> Result<Walk, NoMemory>
+    requires few { length entries.now ≤ 6 }
+    requires near { AreNearEntries entries.now }
+    ensures { IfOk result (λ walk. walk ≡ walk_of entries.now shape.now) }
 {
-    let offset = collect(alloc, at.list(), shape.extents())?;
-    Ok(Access {
-        area,
+    let offset = collect(alloc, entries, shape.extents())?;
+    Ok(Walk {
         start: offset.start,
         strides: Strides::new(&offset.strides).unwrap(),
     })
 }
 
+/// The offset of an entry of one axis.
+pub(crate) fn own_walk(entry: Entry) -> Walk
+    ensures { result ≡ own_walk entry }
+{
+    match entry {
+        Entry::At(constant) => Walk {
+            start: constant,
+            strides: Strides::new(&[]).unwrap(),
+        },
+        Entry::Plus { var, add } => Walk {
+            start: add,
+            strides: Strides::new(&[(var, 1)]).unwrap(),
+        },
+        Entry::Minus { var, add } => Walk {
+            start: add,
+            strides: Strides::new(&[(var, -1)]).unwrap(),
+        },
+    }
+}
+
 /// The offset of entries, one an axis of these extents.
 fn collect(alloc: Global, entries: &[Entry], extents: &[u64]) -> Result<Walked, NoMemory>
     requires few { length entries.now ≤ 6 }
+    requires near { AreNearEntries entries.now }
     requires small { span extents.now ≤ greatest_extent }
-    ensures start { IfOk result (λ made. made.start ≡ int_wrap w64 (walk_of entries.now extents.now).start) }
+    ensures start { IfOk result (λ made. made.start ≡ (walk_of entries.now extents.now).start) }
     ensures strides { IfOk result (λ made. made.strides.items ≡ (walk_of entries.now extents.now).strides) }
 {
     let Some((entry, entries)) = entries.split_first() else {
@@ -82,12 +100,14 @@ fn total_of(extents: &[u64]) -> i64
     }
 }
 
-/// The start with an entry more, as a word.
+/// The start with an entry more.
 fn start_with(weight: i64, entry: Entry, start: i64) -> i64
-    ensures { result ≡ int_wrap w64 (start +ℤ weight *ℤ constant_of entry) }
+    requires weight { unsigned_abs weight ≤ greatest_extent }
+    requires near { IsNear most_constant entry }
+    requires room { unsigned_abs start ≤ 5 * (greatest_extent * most_constant) }
+    ensures { result ≡ start +ℤ weight *ℤ constant_of entry }
 {
-    let part = weight.wrapping_mul(constant_of(entry));
-    start.wrapping_add(part)
+    start + weight * constant_of(entry)
 }
 
 /// The constant of an entry.

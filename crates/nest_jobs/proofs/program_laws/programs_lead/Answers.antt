@@ -16,6 +16,7 @@ returns c = λ inputs items shapes state accepted built plain sized held.
       is_index = c.gamma_laws.ensures.is_index;
       of_ungamma = c.gamma_laws.ensures.of_ungamma;
       below = c.gamma_laws.ensures.below;
+      rules = c.rules_are_about_bindings.ensures;
     } in
     program-leads meant c.block_laws.ensures inputs items nested plain
     (all-shapes items shapes (c.verdicts_are_shapes.ensures.after items shapes accepted)

@@ -83,11 +83,12 @@ returns-clause-exact c = λ text tree homes header lines base d read accepted pl
     let items = tree.statements in
     let homed = zip (nests items) homes in
     exact-steps header lines base (program header.spill homed 0).steps (are_steady homed) d (opening items header lines base d)
-    (after_all items header lines base d) printed (steady-nests (takes-operators c.forms_take_from_sources.ensures) items homes plain used)
+    (after_all items header lines base d) printed
+    (steady-nests (takes-operators c.forms_take_from_sources.ensures c.rules_leave_plain_forms.ensures) items homes plain used)
     (runs c text tree homes header lines base d read accepted plain assigned spilled same start)
 
 pub returns-clause-base : goal.returns-clause-base
 returns-clause-base c = λ tree homes spill plain used.
     let items = tree.statements in
     c.lines_are_base.ensures (zip (nests items) homes) spill
-    (base-nests (takes-operators c.forms_take_from_sources.ensures) items homes plain used)
+    (base-nests (takes-operators c.forms_take_from_sources.ensures c.rules_leave_plain_forms.ensures) items homes plain used)

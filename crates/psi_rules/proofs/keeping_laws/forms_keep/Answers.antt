@@ -23,5 +23,15 @@ returns-clause-each c = λ inputs items shapes accepted built.
 
 pub returns-clause-at : goal.returns-clause-at
 returns-clause-at c = λ inputs items shapes number tree_job array form accepted built.
-    kept-at (jobs items) (given inputs items) (forms items) number tree_job array form
-    (returns-clause-each c inputs items shapes accepted built)
+    λ listed here made. (kept-at (jobs items) (given inputs items) (forms items) number tree_job array form
+    (returns-clause-each c inputs items shapes accepted built) listed here made).kept
+
+pub returns-clause-varying : goal.returns-clause-varying
+returns-clause-varying c = λ inputs items shapes number tree_job array form accepted built listed here made.
+    (kept-at (jobs items) (given inputs items) (forms items) number tree_job array form
+    (returns-clause-each c inputs items shapes accepted built) listed here made).varying
+
+pub returns-clause-roomy : goal.returns-clause-roomy
+returns-clause-roomy c = λ inputs items shapes number tree_job array form accepted built listed here made.
+    (kept-at (jobs items) (given inputs items) (forms items) number tree_job array form
+    (returns-clause-each c inputs items shapes accepted built) listed here made).roomy

@@ -83,11 +83,17 @@ new-requires c =
     (c.first_scan-scan.ensures ∙ ap (λ s. first_scan (scan_at tables s) job.area job.fold) c.owner_at-statement.ensures)
     (λ names ready. c.in_ok-terms.ensures.form names
     (subst (λ s. IsReady checking tables s names job.node) (sym c.owner_at-statement.ensures) ready))
-    shape c.shape_of-shape.ensures c.extents-extents.ensures.shape c.in_ok-terms.ensures.pool in
+    shape c.shape_of-shape.ensures c.extents-extents.ensures.shape c.in_ok-terms.ensures.pool
+    (λ names ready. c.in_ok-terms.ensures.counted names
+    (subst (λ s. IsReady checking tables s names job.node) (sym c.owner_at-statement.ensures) ready)) in
     subst (λ region. IsForm (record { job = job; shape = shape; region = region; terms = terms })) (sym c.whole.ensures)
     (is-form items (record {
       gives = c.jobs_give.ensures [] items ok.0 ok.1;
-      keeps = λ number tree_job array form. c.forms_keep.ensures.at [] items ok.0 number tree_job array form ok.1 built;
+      keeps = λ number tree_job array form listed here made. record {
+        kept = c.forms_keep.ensures.at [] items ok.0 number tree_job array form ok.1 built listed here made;
+        varying = c.forms_keep.ensures.varying [] items ok.0 number tree_job array form ok.1 built listed here made;
+        roomy = c.forms_keep.ensures.roomy [] items ok.0 number tree_job array form ok.1 built listed here made;
+      };
       folds = λ number tree_job array. c.scans_fold.ensures [] items ok.0 number tree_job array ok.1 built;
       some = λ shape. (c.span_laws.ensures.no_extent_0 shape).0;
     }) c.args.job job shape terms found)

@@ -4,6 +4,9 @@ use Rattle.psi_top.proofs.ShownLemmas.{line-more}
 use Rattle.psi_top.specs.Shown.{spelled_as}
 use Rattle.psi_top.proofs.forms.push_form.Goals as goal
 
+pub line_of-requires : goal.line_of-requires
+line_of-requires c = record { whole = c.in_ok-normal.ensures.reduced.whole }
+
 pub returns : goal.returns
 returns c = λ before.
     let checking = c.args.checked.now in

@@ -1,6 +1,8 @@
-use Rattle.std.proofs.Common.{rules, w64}
-use Rattle.std.proofs.lemmas.Int.{int_wrap-add_right, wraps, wrapping_add-bits}
+use Rattle.stride_form.specs.Accesses.{constant_of}
+use Rattle.stride_form.proofs.StrideLemmas.{start-word}
 use Rattle.stride_form.proofs.collect.start_with.Goals as goal
 
 pub returns : goal.returns
-returns c = search (rules, wraps, wrapping_add-bits w64, int_wrap-add_right, c.constant_of.ensures)
+returns c =
+    start-word c.args.weight (constant_of c.args.entry) c.constant_of.result c.args.start c.constant_of.ensures c.ranges.weight
+    c.ranges.start c.requires.weight c.requires.near c.requires.room

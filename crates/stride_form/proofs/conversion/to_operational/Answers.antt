@@ -1,13 +1,16 @@
-use Rattle.std.proofs.Common.{ap, ◌∙◌}
-use Rattle.stride_form.specs.Kept.{op_form_in}
-use Rattle.stride_form.proofs.ConversionLemmas.{same-form, tree-map}
+use Rattle.std.specs.Prelude.{List, ℕ}
+use Rattle.std.proofs.Common.{subst, sym}
+use Rattle.moa_tree.specs.declared.tree.Job.{Job}
+use Rattle.stride_form.specs.Kept.{IsOpForm}
+use Rattle.stride_form.proofs.StartLemmas.{form-made}
 use Rattle.stride_form.proofs.conversion.to_operational.Goals as goal
 
 pub new-requires : goal.new-requires
 new-requires c =
-    same-form c.args.normal.now c.job.result c.shape.result c.region.result c.in_ok-terms.terms.items
-    c.job.ensures c.shape.ensures c.region.ensures c.in_ok-terms.ensures.made c.op_terms.ensures.formed
-
-pub returns-clause-tree : goal.returns-clause-tree
-returns-clause-tree c =
-    ap (λ form. op_form_in form.terms) c.new.ensures ∙ ap op_form_in c.in_ok-terms.ensures.made ∙ tree-map c.args.normal.now c.op_terms.ensures.formed
+    let parts = c.args.normal.now in
+    let terms = c.in_ok-terms.terms.items in
+    let made = form-made parts terms c.empty.ensures.formed c.in_ok-terms.ensures.pool c.in_ok-terms.ensures.tree in
+    subst (λ (job : Job). IsOpForm (record { job = job; shape = c.shape.result; region = c.region.result; terms = terms })) (sym c.job.ensures)
+    (subst (λ (shape : List ℕ). IsOpForm (record { job = parts.job; shape = shape; region = c.region.result; terms = terms })) (sym c.shape.ensures)
+    (subst (λ (region : List (ℕ × ℕ)). IsOpForm (record { job = parts.job; shape = parts.shape; region = region; terms = terms }))
+    (sym c.region.ensures) made))

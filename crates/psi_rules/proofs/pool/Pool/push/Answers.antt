@@ -1,8 +1,9 @@
 use Rattle.std.proofs.Common.{◌≡◌, ◌∙◌, ◌<◌, ◌++◌, ◌∷◌, [], ap, sym, subst, length, arith, length-append}
 use Rattle.std.specs.List.{AllByRecursion}
+use Rattle.normal_form.specs.Formers.{just}
 use Rattle.normal_form.specs.Pool.{operands}
-use Rattle.psi_rules.specs.Building.{Adds, IsPool, IsThere}
-use Rattle.psi_rules.proofs.TermLemmas.{added, pool-grown, term-there}
+use Rattle.psi_rules.specs.Building.{Adds, Builds, IsPool, IsThere}
+use Rattle.psi_rules.proofs.TermLemmas.{added, built-alone, pool-grown, term-there}
 use Rattle.psi_rules.proofs.pool.Pool.push.Goals as goal
 
 pub invariant_of-self-2 : goal.invariant_of-self-2
@@ -20,7 +21,10 @@ returns c =
     let more = c.in_ok-push_term.ensures.added ∙ ap (λ l. l ++ c.args.term ∷ []) terms in
     let next = ap (λ b. b.next) c.self.view_is in
     record {
-      adds = λ form same. subst (Adds form old _) (sym number) (added old _ c.args.term form more next same);
+      adds = λ below form same count. subst (Adds below form old _) (sym number)
+          (added old _ c.args.term below form more next same count);
+      builds = λ form same count. subst (Builds (just form) old _) (sym number)
+          (built-alone old _ form _ (added old _ c.args.term 0 form more next same count));
       there = subst (IsThere old _) (sym number) (term-there old _ c.args.term more);
       one = omega (arith, next, ap length more, length-append old.terms (c.args.term ∷ []));
     }

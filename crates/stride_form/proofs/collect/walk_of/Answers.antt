@@ -1,6 +1,6 @@
 use Rattle.std.proofs.Common.{arith}
 use Rattle.stride_form.proofs.StrideLemmas.{walk-few}
-use Rattle.stride_form.proofs.collect.access.Goals as goal
+use Rattle.stride_form.proofs.collect.walk_of.Goals as goal
 
 pub unwrap-requires : goal.unwrap-requires
 unwrap-requires c =
@@ -9,6 +9,6 @@ unwrap-requires c =
       c.new.ensures.within,
       c.deref.ensures.value,
       c.in_ok-offset.ensures.strides,
-      c.list.ensures,
-      walk-few c.list.result.now c.extents.result.now,
+      c.requires.few,
+      walk-few c.args.entries.now c.extents.result.now,
     )
